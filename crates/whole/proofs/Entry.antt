@@ -1,0 +1,52 @@
+-- The laws of entries by the papers' index.
+use mathlib.Core.Path.{_≡_, refl, sym, _∙_}
+use mathlib.Core.Logic.{⊎-elim}
+use Prim.Native.Nat.{ℕ, zero, suc, _≤_, _<_}
+use native.Mathlib.Omega.{arith}
+use borrow.Author.Tests.{le-ltb, lt-ltb}
+use lib.ListN.{getD, length, List·getD-eq-default}
+use Rattle.whole.specs.Table.{table}
+use Rattle.whole.specs.Entry.{nth, cut, entry}
+use Rattle.whole.proofs.Laws.{ℕ-cases}
+use Rattle.whole.proofs.Table.{table-at, table-past, length-table}
+
+module _ {A : Type 0} (z : A) (n : ℕ) (f : ℕ → A) where
+  pub cut-in : (j : ℕ) → j < n → cut z n f j ≡ f j
+  unfolding cut
+  cut-in j h = rw (lt-ltb j n h)
+
+  pub cut-past : (j : ℕ) → n ≤ j → cut z n f j ≡ z
+  unfolding cut
+  cut-past j h = rw (le-ltb j n h)
+
+  pub entry-in : (j : ℕ) → j < n → entry z n f (suc j) ≡ f j
+  unfolding entry
+  entry-in j h = cut-in j h
+
+  pub entry-past : (j : ℕ) → n ≤ j → entry z n f (suc j) ≡ z
+  unfolding entry
+  entry-past j h = cut-past j h
+
+  -- an array that is filled with f, read at any place
+  pub table-cut : (m : ℕ) → n ≤ m → (j : ℕ) → getD (table m n f z) j z ≡ cut z n f j
+  table-cut m few j = ⊎-elim
+      (λ (l : j < n). table-at m n f z z j l few ∙ sym (cut-in j l))
+      (λ (l : n ≤ j). ⊎-elim
+      (λ (k : j < m). table-past m n f z z j l k)
+      (λ (k : m ≤ j). List·getD-eq-default (table m n f z) z (omega (arith, length-table m n f z few)))
+      (ℕ-cases j m) ∙ sym (cut-past j l))
+      (ℕ-cases j n)
+
+  pub nth-table : (m : ℕ) → n ≤ m → (k : ℕ) → nth z (table m n f z) k ≡ entry z n f k
+  unfolding nth entry
+  nth-table m few zero = refl
+  nth-table m few (suc j) = table-cut m few j
+
+-- what stands from n on plays no part
+pub entry-cong : {A : Type 0} (z : A) (n : ℕ) (f g : ℕ → A) → ((j : ℕ) → j < n → f j ≡ g j) → (k : ℕ) → entry z n f k ≡ entry z n g k
+unfolding entry
+entry-cong z n f g h zero = refl
+entry-cong z n f g h (suc j) = ⊎-elim
+    (λ (l : j < n). cut-in z n f j l ∙ h j l ∙ sym (cut-in z n g j l))
+    (λ (l : n ≤ j). cut-past z n f j l ∙ sym (cut-past z n g j l))
+    (ℕ-cases j n)

@@ -1,0 +1,52 @@
+-- The laws of a table.
+use Prim.Native.Nat.{ℕ, zero, suc, _+_, _≤_, _<_}
+use mathlib.Core.Path.{_≡_, refl, ap, ap₂, _∙_, sym}
+use mathlib.Core.List.{List, _∷_}
+use native.Mathlib.Nat.{not-suc-le-zero, le-of-suc-le-suc}
+use native.Mathlib.Numerals.{add-one}
+use native.Mathlib.Omega.{arith}
+use lib.ListN.{length, getD, set, replicate, length-replicate, getD-replicate}
+use Rattle.whole.specs.Table.{table}
+
+module _ {A : Type 0} where
+  pub table-none : (m : ℕ) (f : ℕ → A) (d : A) → table m 0 f d ≡ replicate m d
+  unfolding table
+  table-none m f d = refl
+
+  table-suc : (m n : ℕ) (f : ℕ → A) (d : A) → n < m → set (table m n f d) n (f n) ≡ table m (suc n) f d
+  unfolding table
+  table-suc zero n f d h = absurd (not-suc-le-zero h)
+  table-suc (suc m) zero f d h = refl
+  table-suc (suc m) (suc n) f d h = ap (λ (l : List A). f zero ∷ l) (table-suc m n (λ k. f (suc k)) d (le-of-suc-le-suc h))
+
+  -- one more turn of a loop that fills the array
+  pub table-more : (m n : ℕ) (f : ℕ → A) (d : A) → n < m → set (table m n f d) n (f n) ≡ table m (n + 1) f d
+  table-more m n f d h = table-suc m n f d h ∙ ap (λ (k : ℕ). table m k f d) (sym (add-one n))
+
+  pub length-table : (m n : ℕ) (f : ℕ → A) (d : A) → n ≤ m → length (table m n f d) ≡ m
+  unfolding table
+  length-table m zero f d h = length-replicate m d
+  length-table zero (suc n) f d h = refl
+  length-table (suc m) (suc n) f d h = ap suc (length-table m n (λ k. f (suc k)) d (le-of-suc-le-suc h))
+
+  -- what stands at a place that is filled, and at one that is not
+  pub table-at : (m n : ℕ) (f : ℕ → A) (d e : A) (k : ℕ) → k < n → n ≤ m → getD (table m n f d) k e ≡ f k
+  unfolding table
+  table-at m zero f d e k h g = absurd (not-suc-le-zero h)
+  table-at zero (suc n) f d e k h g = absurd (not-suc-le-zero g)
+  table-at (suc m) (suc n) f d e zero h g = refl
+  table-at (suc m) (suc n) f d e (suc k) h g = table-at m n (λ i. f (suc i)) d e k (le-of-suc-le-suc h) (le-of-suc-le-suc g)
+
+  pub table-past : (m n : ℕ) (f : ℕ → A) (d e : A) (k : ℕ) → n ≤ k → k < m → getD (table m n f d) k e ≡ d
+  unfolding table
+  table-past m zero f d e k h g = getD-replicate m k d e g
+  table-past zero (suc n) f d e k h g = absurd (not-suc-le-zero g)
+  table-past (suc m) (suc n) f d e zero h g = absurd (not-suc-le-zero h)
+  table-past (suc m) (suc n) f d e (suc k) h g = table-past m n (λ i. f (suc i)) d e k (le-of-suc-le-suc h) (le-of-suc-le-suc g)
+
+  pub table-cong : (m n : ℕ) (f g : ℕ → A) (d : A) → ((k : ℕ) → k < n → f k ≡ g k) → table m n f d ≡ table m n g d
+  unfolding table
+  table-cong m zero f g d h = refl
+  table-cong zero (suc n) f g d h = refl
+  table-cong (suc m) (suc n) f g d h =
+      ap₂ (λ (a : A) (l : List A). a ∷ l) (h zero (omega arith)) (table-cong m n (λ k. f (suc k)) (λ k. g (suc k)) d (λ k l. h (suc k) (omega arith)))
