@@ -1,11 +1,10 @@
 -- Document 01's starred cases: the computed test over their list, and what it says of each.
 use mathlib.Core.Path.{_≡_, refl}
-use mathlib.Core.Bool.{Bool, true, false}
+use mathlib.Core.Bool.{true}
 use mathlib.Core.List.{List, [], _∷_, _++_, List·Memᴰ, List·Memᴰ·cases-cons, List·Memᴰ·not-nil}
 use mathlib.Core.Logic.{⊎-elim}
-use lib.IntN.{ℤ, pos, negsuc}
 use Rattle.whole.specs.Floor.{floor, shareOf}
-use Rattle.whole.specs.Test.{both, isBetween, isSame}
+use Rattle.whole.specs.Test.{isBetween, isSame}
 use Rattle.whole.specs.Case.{Case, agree, shareCases}
 use Rattle.whole.proofs.Test.{both-first, both-second, same-is}
 

@@ -4,7 +4,7 @@ use mathlib.Core.Logic.{⊎-elim}
 use Prim.Native.Nat.{ℕ, zero, suc, _≤_, _<_}
 use native.Mathlib.Omega.{arith}
 use borrow.Author.Tests.{le-ltb, lt-ltb}
-use lib.ListN.{getD, length, List·getD-eq-default}
+use lib.ListN.{getD, List·getD-eq-default}
 use Rattle.whole.specs.Table.{table}
 use Rattle.whole.specs.Entry.{nth, cut, entry}
 use Rattle.whole.proofs.Laws.{ℕ-cases}

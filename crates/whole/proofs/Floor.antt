@@ -1,6 +1,6 @@
 -- The laws of division downward, and the share's facts for any factor.
-use mathlib.Core.Path.{_≡_, refl, sym, ap, _∙_}
-use Prim.Native.Nat.{ℕ, zero, suc, _+_, _*_, _-_, _/_, _%_, _≤_, _<_}
+use mathlib.Core.Path.{_≡_, sym, ap}
+use Prim.Native.Nat.{ℕ, suc, _*_, _-_, _/_, _%_, _<_}
 use native.Mathlib.Nat.{div-add-mod', mod-lt}
 use native.Mathlib.Omega.{arith}
 use lib.IntN.{ℤ, pos, negsuc, negℤ, _+ℤ_, _-ℤ_, _*ℤ_, zero-*ℤ, *ℤ-zero}
@@ -8,7 +8,7 @@ use lib.Signed.{_≤ℤ_, _<ℤ_, quotZ, ≤ℤ-refl}
 use Rattle.whole.specs.Range.{million, Within}
 use Rattle.whole.specs.Floor.{IsFloor, floor, shareOf}
 use Rattle.whole.proofs.Bridge.{at, same, #, _⊕_, _⊖_, _⊗_, ⊝, whole}
-use Rattle.whole.proofs.Laws.{*ℤ-mono, *ℤ-nonneg, *ℤ-cancel-<, *ℤ-cancel-≤, suc-<ℤ, ≤ℤ-antisymm}
+use Rattle.whole.proofs.Laws.{*ℤ-mono, *ℤ-cancel-<, *ℤ-cancel-≤, suc-<ℤ, ≤ℤ-antisymm}
 use Rattle.whole.proofs.Range.{within-mul}
 
 -- ---- a floor as an exact division: z is q times m and e over

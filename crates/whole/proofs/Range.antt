@@ -4,11 +4,11 @@ use Prim.Native.Nat.{ℕ, zero, suc, _+_, _*_, _-_, _/_, _≤_, _<_}
 use native.Mathlib.Nat.{mul-le-mul, le-trans, div-le-self}
 use native.Mathlib.Omega.{arith}
 use lib.IntN.{natAbs, ℤ, pos, negsuc, negℤ, _+ℤ_, _-ℤ_, _*ℤ_}
-use lib.Signed.{mag, quotZ, _≤ℤ_, _<ℤ_}
+use lib.Signed.{mag, quotZ, _≤ℤ_}
 use mir.Syntax.{w64}
 use mir.Val.{SFits, toZ, ofZ}
 use mir.Facts.{toZ-ofZ, toZ-pos}
-use Rattle.whole.specs.Range.{Between, Within}
+use Rattle.whole.specs.Range.{Within}
 use Rattle.whole.proofs.Bridge.{plus, minus, at, #, _⊕_, _⊖_, ⊝, whole}
 
 -- ---- ranges through the operations

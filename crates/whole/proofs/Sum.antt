@@ -5,11 +5,11 @@ use Prim.Native.Nat.{ℕ, zero, suc, _+_, _*_, _-_, _≤_, _<_, max}
 use native.Mathlib.Nat.{add-suc, add-zero, add-le-add, le-refl, mul-zero}
 use native.Mathlib.Numerals.{add-one}
 use native.Mathlib.Omega.{arith}
-use lib.IntN.{ℤ, pos, negℤ, natAbs, _+ℤ_, _-ℤ_, _*ℤ_}
+use lib.IntN.{ℤ, pos, natAbs, _+ℤ_, _-ℤ_, _*ℤ_}
 use lib.Signed.{_≤ℤ_, ≤ℤ-refl}
 use Rattle.whole.specs.Range.{Within}
-use Rattle.whole.specs.Sum.{sum, sumℕ, Σℤ, Σℕ, largest}
-use Rattle.whole.proofs.Bridge.{at, same, #, _⊕_, _⊗_, ⊝, whole}
+use Rattle.whole.specs.Sum.{sum, sumℕ, Σℤ, largest}
+use Rattle.whole.proofs.Bridge.{same, #, _⊕_, _⊗_, whole}
 use Rattle.whole.proofs.Laws.{ℕ-cases, +ℤ-mono, +ℤ-nonneg, -ℤ-swap, +ℤ-swap, *ℤ-dist-r}
 use Rattle.whole.proofs.Range.{within-add, within-abs, abs-within}
 

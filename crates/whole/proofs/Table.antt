@@ -50,3 +50,13 @@ module _ {A : Type 0} where
   table-cong zero (suc n) f g d h = refl
   table-cong (suc m) (suc n) f g d h =
       ap₂ (λ (a : A) (l : List A). a ∷ l) (h zero (omega arith)) (table-cong m n (λ k. f (suc k)) (λ k. g (suc k)) d (λ k l. h (suc k) (omega arith)))
+
+  -- where the function gives d itself from n on, the whole array is its values
+  pub table-whole : (m n : ℕ) (f : ℕ → A) (d : A) → n ≤ m → ((k : ℕ) → n ≤ k → f k ≡ d) → table m n f d ≡ table m m f d
+  unfolding table
+  table-whole zero zero f d h e = refl
+  table-whole zero (suc n) f d h e = absurd (not-suc-le-zero h)
+  table-whole (suc m) zero f d h e =
+      ap₂ (λ (a : A) (l : List A). a ∷ l) (sym (e zero (omega arith))) (table-whole m zero (λ k. f (suc k)) d (omega arith) (λ k l. e (suc k) (omega arith)))
+  table-whole (suc m) (suc n) f d h e =
+      ap (λ (l : List A). f zero ∷ l) (table-whole m n (λ k. f (suc k)) d (le-of-suc-le-suc h) (λ k l. e (suc k) (omega arith)))

@@ -7,10 +7,10 @@ use native.Mathlib.Numerals.{add-one}
 use native.Mathlib.Omega.{arith}
 use borrow.Author.Tests.{le-leb, lt-leb, leb-true}
 use lib.Dec.{T, leb, nleb→lt, lt→ltb}
-use lib.IntN.{ℤ, pos, negsuc, negℤ}
+use lib.IntN.{ℤ, pos, negsuc}
 use lib.Signed.{leZ, ltZ, leZ-yes, ltZ-yes, ltZ-no, _≤ℤ_, _<ℤ_, clashℤ}
-use Rattle.whole.specs.Range.{Between, Within}
-use Rattle.whole.specs.Test.{pick, both, all, isFrom, isBetween, isWithin, isSame}
+use Rattle.whole.specs.Range.{Between}
+use Rattle.whole.specs.Test.{pick, both, all, isFrom, isBetween, isSame}
 use Rattle.whole.proofs.Laws.{ℕ-cases, ≤ℤ-antisymm}
 
 pub false-true : false ≡ true → ⊥

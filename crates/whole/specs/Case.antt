@@ -1,5 +1,5 @@
 -- The cases that document 01, "Edges", marks with a star: what the definitions give beside what the paper says.
-use mathlib.Core.Bool.{Bool, true, false}
+use mathlib.Core.Bool.{Bool, true}
 use mathlib.Core.List.{List, [], _∷_}
 use lib.IntN.{ℤ, pos, negsuc}
 use Rattle.whole.specs.Floor.{shareOf}

@@ -1,6 +1,6 @@
 -- `whole::down` is the floor: the quotient toward zero, less one where it lies above.
 use native.Mathlib.Omega.{arith}
-use lib.IntN.{ℤ, pos, _+ℤ_, _-ℤ_, _*ℤ_}
+use lib.IntN.{ℤ, pos, _-ℤ_, _*ℤ_}
 use lib.Signed.{quotZ}
 use mir.Syntax.{w64}
 use mir.Val.{SFits}
