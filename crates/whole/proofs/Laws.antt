@@ -69,6 +69,9 @@ pub <ℤ→≤ℤ : {a b : ℤ} → a <ℤ b → a ≤ℤ b
 pub ≤ℤ-antisymm : {a b : ℤ} → a ≤ℤ b → b ≤ℤ a → a ≡ b
 ≤ℤ-antisymm h k = omega whole
 
+pub pos-nonneg : (n : ℕ) → pos 0 ≤ℤ pos n
+pos-nonneg n = omega whole
+
 pub suc-<ℤ : {a b : ℤ} → a <ℤ (b +ℤ pos 1) → a ≤ℤ b
 suc-<ℤ {b = b} h = omega (whole, at (# b ⊕ # (pos 1)))
 
@@ -113,6 +116,9 @@ pub *ℤ-mono-< : {a b m : ℤ} → pos 0 <ℤ m → a <ℤ b → (a *ℤ m) <�
 
 pub *ℤ-nonneg : {a b : ℤ} → pos 0 ≤ℤ a → pos 0 ≤ℤ b → pos 0 ≤ℤ (a *ℤ b)
 *ℤ-nonneg {a} {b} h k = omega (whole, *ℤ-mono k h, at (# (pos 0) ⊗ # b))
+
+pub *ℤ-nonpos : {a b : ℤ} → a ≤ℤ pos 0 → pos 0 ≤ℤ b → (a *ℤ b) ≤ℤ pos 0
+*ℤ-nonpos {a} {b} h k = omega (whole, *ℤ-mono k h, at (# (pos 0) ⊗ # b))
 
 -- cancelling a positive factor
 pub *ℤ-cancel-≤ : (a b : ℤ) {m : ℤ} → pos 0 <ℤ m → (a *ℤ m) ≤ℤ (b *ℤ m) → a ≤ℤ b

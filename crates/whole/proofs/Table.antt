@@ -60,3 +60,21 @@ module _ {A : Type 0} where
       ap₂ (λ (a : A) (l : List A). a ∷ l) (sym (e zero (omega arith))) (table-whole m zero (λ k. f (suc k)) d (omega arith) (λ k l. e (suc k) (omega arith)))
   table-whole (suc m) (suc n) f d h e =
       ap (λ (l : List A). f zero ∷ l) (table-whole m n (λ k. f (suc k)) d (le-of-suc-le-suc h) (λ k l. e (suc k) (omega arith)))
+
+  -- one place set, and the others as they were
+  pub table-set : (m n : ℕ) (f g : ℕ → A) (d : A) (j : ℕ) → j < n → n ≤ m → ((k : ℕ) → (k ≡ j → ⊥) → f k ≡ g k) → set (table m n f d) j (g j) ≡ table m n g d
+  unfolding table
+  table-set m zero f g d j h few e = absurd (not-suc-le-zero h)
+  table-set zero (suc n) f g d j h few e = absurd (not-suc-le-zero few)
+  table-set (suc m) (suc n) f g d zero h few e =
+      ap (λ (l : List A). g zero ∷ l) (table-cong m n (λ k. f (suc k)) (λ k. g (suc k)) d (λ k l. e (suc k) (λ i. omega arith)))
+  table-set (suc m) (suc n) f g d (suc j) h few e =
+      ap₂ (λ (a : A) (l : List A). a ∷ l) (e zero (λ i. omega arith))
+      (table-set m n (λ k. f (suc k)) (λ k. g (suc k)) d j (le-of-suc-le-suc h) (le-of-suc-le-suc few) (λ k n. e (suc k) (λ i. n (omega arith))))
+
+  -- every place is d
+  pub table-same : (m n : ℕ) (d : A) → table m n (λ k. d) d ≡ replicate m d
+  unfolding table
+  table-same m zero d = refl
+  table-same zero (suc n) d = refl
+  table-same (suc m) (suc n) d = ap (λ (l : List A). d ∷ l) (table-same m n d)
