@@ -1,0 +1,100 @@
+-- The horizon: the exact fund is the reckoned one, with what the last floors leave over and what the cells' errors come to.
+use mathlib.Core.Path.{refl, sym, ap, _∙_, subst₂}
+use Prim.Native.Nat.{ℕ, _+_, _-_, _*_, _≤_, _<_}
+use native.Mathlib.Nat.{le-trans, le-of-eq, mul-le-mul-right, mul-lt-mul-of-pos-right, le-of-lt}
+use native.Mathlib.Omega.{arith}
+use lib.IntN.{ℤ, pos, natAbs, _+ℤ_, _-ℤ_, _*ℤ_}
+use lib.Signed.{_≤ℤ_, _<ℤ_}
+use Rattle.whole.specs.Range.{million}
+use Rattle.whole.specs.Floor.{shareOf}
+use Rattle.whole.specs.Sum.{sum, sumℕ}
+use Rattle.whole.proofs.Bridge.{at, #, _⊕_, _⊖_, _⊗_, ⊝, whole}
+use Rattle.whole.proofs.Laws.{pos-nonneg, +ℤ-nonneg, *ℤ-nonneg}
+use Rattle.whole.proofs.Range.{abs-within, abs-self, abs-mul}
+use Rattle.whole.proofs.Floor.{rest, rest-lt}
+use Rattle.whole.proofs.Sum.{sum-add, sum-pos, sum-abs, sum-nonneg, sumℕ-mono, sumℕ-const}
+use Rattle.reckoning.specs.Reckoning.{w, alpha, fund}
+use Rattle.reckoning.specs.Exact.{H}
+use Rattle.reckoning.specs.Bound.{G, B}
+use Rattle.reckoning.specs.Theorem.{Given, NotNegative, Floors, FromBelow, Near}
+use Rattle.reckoning.proofs.Recursion.{fund-is, H-is}
+use Rattle.reckoning.proofs.Powers.{P, P-pred, P-positive}
+use Rattle.reckoning.proofs.Units.{Units, units-floor, units-recount, units-sum, units-later}
+use Rattle.reckoning.proofs.Outstanding.{held, outstanding}
+use Rattle.reckoning.proofs.Errors.{err, err-units, err-nonneg, err-outstanding}
+
+-- the exact fund z / P N is at least y - c, and below y + b
+pub record Bracket (N c b : ℕ) (z y : ℤ) : Type 0 where
+  pub low : ((y -ℤ pos c) *ℤ pos (P N)) ≤ℤ z
+  pub high : z <ℤ ((y +ℤ pos b) *ℤ pos (P N))
+
+pub bracket-from-below : {N b : ℕ} {z y : ℤ} → Bracket N 0 b z y → FromBelow N z y b
+unfolding P
+bracket-from-below {N} {y = y} k = record { low = omega (whole, k .low, at ((# y ⊖ # (pos 0)) ⊗ # (pos (P N))), at (# y ⊗ # (pos (P N)))); high = k .high }
+
+pub bracket-near : {N c b : ℕ} {z y : ℤ} → c < b → Bracket N c b z y → Near N z y b
+unfolding P
+bracket-near {N} {c} {b} {y = y} l k = record { low = omega (whole, k .low, mul-lt-mul-of-pos-right l (P-positive N), at ((# y ⊖ # (pos c)) ⊗ # (pos (P N))), at ((# y ⊖ # (pos b)) ⊗ # (pos (P N)))); high = k .high }
+
+module _ (r : ℕ → ℕ) (i : ℕ → ℤ) (h : ℕ) (given : Given r i h) (N : ℕ) (some : 1 ≤ N) (f x : ℕ → ℤ) (floors : Floors f x) where
+  -- what the floors at the horizon leave over, and what the cells' errors come to
+  abbrev share-rest : ℕ → ℕ
+  share-rest l = rest (alpha r i f (2 + l) *ℤ pos (w r (N - l - 1))) million
+
+  dropped : ℕ
+  dropped = sumℕ N (λ l. share-rest l * (million * P (N - 1)))
+
+  total : ℤ
+  total = sum N (λ l. err r i f x l *ℤ pos (held r (N - l - 1)))
+
+  H-units : Units (H r i N x) (fund r i N f) (pos (P N)) (pos dropped +ℤ total)
+  unfolding P shareOf held dropped total
+  H-units = subst₂ (λ z q. Units z q (pos (P N)) (pos dropped +ℤ total)) (sym (H-is r i N x)) (sym (fund-is r i N f))
+      (units-recount (units-sum N _ _ (pos (P N)) _ (λ l b.
+      units-recount (units-later (pos (w r (N - l - 1))) N l b (err-units r i f x l) (units-floor (alpha r i f (2 + l) *ℤ pos (w r (N - l - 1))) million (omega arith)))
+      (ap pos (omega (arith, P-pred N some))) refl))
+      refl
+      (sum-add N (λ l. pos (share-rest l * (million * P (N - 1)))) (λ l. err r i f x l *ℤ pos (held r (N - l - 1)))
+      ∙ ap (λ z. z +ℤ total) (sum-pos N _)))
+
+  dropped-le : dropped ≤ N * P N
+  unfolding dropped
+  dropped-le = le-trans (sumℕ-mono N _ (λ l. P N) (λ l b.
+      omega (arith, mul-le-mul-right (million * P (N - 1)) (le-of-lt (rest-lt (alpha r i f (2 + l) *ℤ pos (w r (N - l - 1))) million (omega arith))), P-pred N some)))
+      (le-of-eq (sumℕ-const N (P N)))
+
+  total-size : natAbs total < G h (N + 1) * P N
+  unfolding total outstanding
+  total-size = omega (
+    arith,
+    err-outstanding r i f x floors h given N some,
+    sum-abs N (λ l. err r i f x l *ℤ pos (held r (N - l - 1))) (λ l. natAbs (err r i f x l) * held r (N - l - 1)) (λ l b. le-of-eq (abs-mul (err r i f x l) (pos (held r (N - l - 1))))),
+  )
+
+  -- where the errors come to no less than -c
+  bracket : (c : ℕ) → pos 0 ≤ℤ (total +ℤ pos (c * P N)) → Bracket N c (B h N) (H r i N x) (fund r i N f)
+  unfolding B
+  bracket c low =
+      let y : ℤ = fund r i N f in
+      let u : ℤ = pos (P N) in
+      omega (
+        whole,
+        low,
+        H-units .eq,
+        dropped-le,
+        total-size,
+        abs-self total .high,
+        at (# total ⊕ # (pos (c * P N))),
+        at (# y ⊗ # u ⊕ (# (pos dropped) ⊕ # total)),
+        at ((# y ⊖ # (pos c)) ⊗ # u),
+        at ((# y ⊕ # (pos (G h (N + 1) + N))) ⊗ # u),
+      )
+
+  -- rates of either sign
+  pub fund-bracket : Bracket N (G h (N + 1)) (B h N) (H r i N x) (fund r i N f)
+  fund-bracket = let g : ℕ = G h (N + 1) * P N in bracket (G h (N + 1)) (omega (whole, abs-within g total (le-of-lt total-size) .low, at (⊝ (# (pos g))), at (# total ⊕ # (pos g))))
+
+  -- no rate below 0
+  pub fund-bracket-nonneg : NotNegative i → Bracket N 0 (B h N) (H r i N x) (fund r i N f)
+  unfolding total
+  fund-bracket-nonneg up = bracket 0 (+ℤ-nonneg {b = pos (0 * P N)} (sum-nonneg N _ (λ l b. *ℤ-nonneg (err-nonneg r i f x floors up l) (pos-nonneg _))) (pos-nonneg _))

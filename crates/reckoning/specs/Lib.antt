@@ -1,0 +1,9 @@
+-- One flow in one pattern. Reckoning, Exact, Bound and Gamma are document 01's sections, in its order and letters, with the
+-- starred cases in Case. Theorem has the claims that join the reckoned and the exact. Arrays says what the code's arrays mean.
+pub mod Reckoning
+pub mod Exact
+pub mod Bound
+pub mod Gamma
+pub mod Case
+pub mod Theorem
+pub mod Arrays
