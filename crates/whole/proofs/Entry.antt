@@ -1,7 +1,8 @@
 -- The laws of entries by the papers' index.
-use mathlib.Core.Path.{_≡_, refl, sym, _∙_}
+use mathlib.Core.Path.{_≡_, refl, sym, _∙_, subst}
 use mathlib.Core.Logic.{⊎-elim}
-use Prim.Native.Nat.{ℕ, zero, suc, _≤_, _<_}
+use Prim.Native.Nat.{ℕ, zero, suc, _+_, _≤_, _<_}
+use native.Mathlib.Numerals.{one-add}
 use native.Mathlib.Omega.{arith}
 use borrow.Author.Tests.{le-ltb, lt-ltb}
 use lib.ListN.{getD, List·getD-eq-default}
@@ -23,9 +24,29 @@ module _ {A : Type 0} (z : A) (n : ℕ) (f : ℕ → A) where
   unfolding entry
   entry-in j h = cut-in j h
 
+  pub entry-at : (j : ℕ) → j < n → entry z n f (1 + j) ≡ f j
+  entry-at j h = rw (one-add j) (entry-in j h)
+
   pub entry-past : (j : ℕ) → n ≤ j → entry z n f (suc j) ≡ z
   unfolding entry
   entry-past j h = cut-past j h
+
+  -- before the first entry, and past the last
+  pub entry-zero : entry z n f 0 ≡ z
+  unfolding entry
+  entry-zero = refl
+
+  pub entry-beyond : (k : ℕ) → n < k → entry z n f k ≡ z
+  unfolding entry
+  entry-beyond zero h = refl
+  entry-beyond (suc j) h = cut-past j (omega arith)
+
+  -- what holds of z and of each entry holds at every index
+  pub entry-each : (Q : A → Type 0) → Q z → ((j : ℕ) → j < n → Q (f j)) → (k : ℕ) → Q (entry z n f k)
+  unfolding entry
+  entry-each Q q h zero = q
+  entry-each Q q h (suc j) =
+      ⊎-elim (λ (l : j < n). subst Q (sym (cut-in j l)) (h j l)) (λ (l : n ≤ j). subst Q (sym (cut-past j l)) q) (ℕ-cases j n)
 
   -- an array that is filled with f, read at any place
   pub table-cut : (m : ℕ) → n ≤ m → (j : ℕ) → getD (table m n f z) j z ≡ cut z n f j
@@ -50,3 +71,7 @@ entry-cong z n f g h (suc j) = ⊎-elim
     (λ (l : j < n). cut-in z n f j l ∙ h j l ∙ sym (cut-in z n g j l))
     (λ (l : n ≤ j). cut-past z n f j l ∙ sym (cut-past z n g j l))
     (ℕ-cases j n)
+
+-- the same with a count on either side
+pub entry-same : {A : Type 0} (z : A) {n m : ℕ} (f g : ℕ → A) → n ≡ m → ((j : ℕ) → j < n → f j ≡ g j) → (k : ℕ) → entry z n f k ≡ entry z m g k
+entry-same z {n} f g e h k = rw (← e) (entry-cong z n f g h k)

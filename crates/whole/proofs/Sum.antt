@@ -8,7 +8,7 @@ use native.Mathlib.Omega.{arith}
 use lib.IntN.{ℤ, pos, natAbs, _+ℤ_, _-ℤ_, _*ℤ_}
 use lib.Signed.{_≤ℤ_, ≤ℤ-refl}
 use Rattle.whole.specs.Range.{Within}
-use Rattle.whole.specs.Sum.{sum, sumℕ, Σℤ, largest}
+use Rattle.whole.specs.Sum.{sum, sumℕ, Σℤ, Σℕ, largest}
 use Rattle.whole.proofs.Bridge.{same, #, _⊕_, _⊗_, whole}
 use Rattle.whole.proofs.Laws.{ℕ-cases, +ℤ-mono, +ℤ-nonneg, -ℤ-swap, +ℤ-swap, *ℤ-dist-r}
 use Rattle.whole.proofs.Range.{within-add, within-abs, abs-within}
@@ -87,6 +87,11 @@ pub sumℕ-suc : (n : ℕ) (g : ℕ → ℕ) → sumℕ (suc n) g ≡ sumℕ n g
 unfolding sumℕ
 sumℕ-suc n g = refl
 
+-- one more turn of a loop: s is the sum so far, v what the turn adds
+pub sumℕ-turn : (g : ℕ → ℕ) (n : ℕ) {s v : ℕ} → s ≡ sumℕ n g → v ≡ g n → s + v ≡ sumℕ (n + 1) g
+unfolding sumℕ
+sumℕ-turn g n p q = rw (add-one n, p, q)
+
 pub sumℕ-cong : (n : ℕ) (g h : ℕ → ℕ) → ((k : ℕ) → k < n → g k ≡ h k) → sumℕ n g ≡ sumℕ n h
 unfolding sumℕ
 sumℕ-cong zero g h e = refl
@@ -143,6 +148,9 @@ pub Σℤ-cong : (a b : ℕ) (g h : ℕ → ℤ) → ((l : ℕ) → a ≤ l → 
 -- counted from 0
 pub Σℤ-from : (a b n : ℕ) (g h : ℕ → ℤ) → suc b - a ≡ n → ((j : ℕ) → j < n → g (a + j) ≡ h j) → Σℤ a b g ≡ sum n h
 Σℤ-from a b n g h e f = ap (λ (m : ℕ). sum m (λ j. g (a + j))) e ∙ sum-cong n _ _ f
+
+pub Σℕ-from : (a b n : ℕ) (g h : ℕ → ℕ) → suc b - a ≡ n → ((j : ℕ) → j < n → g (a + j) ≡ h j) → Σℕ a b g ≡ sumℕ n h
+Σℕ-from a b n g h e f = ap (λ (m : ℕ). sumℕ m (λ j. g (a + j))) e ∙ sumℕ-cong n _ _ f
 
 -- ---- the largest value
 pub largest-none : (g : ℕ → ℕ) → largest 0 g ≡ 0

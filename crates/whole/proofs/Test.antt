@@ -53,6 +53,10 @@ pub all-more : (n : ℕ) (p : ℕ → Bool) → all n p ≡ true → p n ≡ tru
 unfolding all
 all-more n p h k = ap (λ (m : ℕ). all m p) (add-one n) ∙ ap₂ both h k
 
+-- the loop's end
+pub all-end : {k : ℕ} (n : ℕ) (p : ℕ → Bool) → k ≤ n → n ≤ k → all k p ≡ true → all n p ≡ true
+all-end {k} n p h g e = let same : n ≡ k = omega arith in ap (λ (m : ℕ). all m p) same ∙ e
+
 -- one fails
 pub all-fails : (n : ℕ) (p : ℕ → Bool) (i : ℕ) → i < n → p i ≡ false → all n p ≡ false
 unfolding all
@@ -131,6 +135,11 @@ module _ (a b z : ℤ) where
   pub between-above : b <ℤ z → isBetween a b z ≡ false
   unfolding isBetween
   between-above h = rw (lt-leZ z b h) (both-not (leZ a z))
+
+-- a natural is never below 0
+pub between-pos : (b n : ℕ) → isBetween (pos 0) (pos b) (pos n) ≡ leb n b
+unfolding isBetween
+between-pos b n = rw (le-leb 0 n (omega arith))
 
 pub same-is : (x y : ℤ) → isSame x y ≡ true → x ≡ y
 unfolding isSame
