@@ -1,0 +1,31 @@
+-- `little_endian::signed_64` is two's complement: the number itself, or -1 less that of the flipped bits.
+use mathlib.Core.Path.{sym}
+use native.Mathlib.Omega.{arith}
+use borrow.Author.Needs.{needs}
+use mir.Syntax.{w64}
+use mir.Facts.{toZ-ofZ}
+use Rattle.little_endian.proofs.TwosComplement.{signed-toZ, signed-fits, flipped}
+use Rattle.little_endian.proofs.signed_64.Statement.{statement}
+use Rattle.little_endian.proofs.signed_64.Tie as tie
+
+cast-result : tie.Need-cast-result
+cast-result c = search needs
+
+sub-result : tie.Need-sub-result
+sub-result c = search needs
+
+cast-result-2 : tie.Need-cast-result-2
+cast-result-2 c = search needs
+
+sub-result-2 : tie.Need-sub-result-2
+sub-result-2 c = let x = c .before .args .x in rw (flipped w64 x (omega arith) (omega arith)) (signed-fits w64 x (omega arith))
+
+returns : tie.Need-returns
+returns c = sym (signed-toZ w64 (c .before .args .x) (omega arith))
+
+returns-2 : tie.Need-returns-2
+returns-2 c = let x = c .before .args .x in rw (flipped w64 x (omega arith) (omega arith)) (toZ-ofZ (signed-fits w64 x (omega arith)))
+
+pub signed-64-spec : {M : Type 1} → statement M
+signed-64-spec =
+    tie.close (tie.spec cast-result sub-result cast-result-2 sub-result-2 returns returns-2)
