@@ -2,14 +2,15 @@
 use mathlib.Core.Path.{_≡_, refl, sym, ap, ap₂, _∙_}
 use mathlib.Core.List.{List, [], _∷_, _++_, append-assoc}
 use mathlib.Core.Logic.{_⊎_, inl, inr, ⊎-elim}
-use Prim.Native.Nat.{ℕ, zero, suc, _+_, _*_, _/_, _%_, _^_, _≤_, _<_}
+use Prim.Native.Nat.{ℕ, zero, suc, _+_, _-_, _*_, _/_, _%_, _^_, _≤_, _<_}
 use native.Mathlib.Nat.{add-zero, zero-add, add-suc, suc-add, mul-assoc, pow-succ', one-le-pow}
 use native.Mathlib.Nat.{mod-lt, mod-add-div, add-mul-mod-self-left, add-mul-div-left}
 use native.Mathlib.Omega.{arith}
 use lib.Dec.{lit<}
-use lib.ListN.{length, getD, take, drop, set, List·getD-append}
+use lib.ListN.{length, getD, take, drop, set, length-take, List·getD-append, List·getD-eq-default}
 use lib.Seq.{take-nil, take-all, take-at, length-take-le, drop-cons, drop-drop, drop-at, drop-append-seam}
-use lib.Seq.{getD-take, getD-set-other, sets, sets-eq, length-sets}
+use lib.Seq.{getD-take, getD-drop, getD-append-add, getD-set-other, sets, sets-eq, length-sets}
+use Rattle.whole.proofs.Laws.{ℕ-cases}
 use Rattle.little_endian.specs.LittleEndian.{Bytes, leOf, leAt, bytesOf, stored}
 
 -- ---- stores in a list
@@ -25,6 +26,32 @@ getD-sets (v ∷ vs) b at k h =
     getD-sets vs (set b at v) (suc at) k
     (⊎-elim (λ (l : k < at). inl (omega arith)) (λ (l : at + suc (length vs) ≤ k). inr (omega arith)) h)
     ∙ getD-set-other b at k v 0 (λ e. ⊎-elim (λ (l : k < at). omega arith) (λ (l : at + suc (length vs) ≤ k). omega arith) h)
+
+-- ---- lists of bytes
+pub bytes-drop : (n : ℕ) {s : List ℕ} → Bytes s → Bytes (drop n s)
+bytes-drop n {s} b = record { below = λ k. rw getD-drop (b .below (n + k)) }
+
+pub bytes-take : (n : ℕ) {s : List ℕ} → Bytes s → Bytes (take n s)
+bytes-take n {s} b = record {
+  below = λ k.
+      ⊎-elim
+      (λ (h : k < n). rw getD-take (b .below k))
+      (λ (h : n ≤ k).
+      let l : length (take n s) ≤ k = rw length-take (omega arith) in
+      rw (List·getD-eq-default (take n s) 0 l) (lit< tt))
+      (ℕ-cases k n);
+}
+
+pub bytes-append : {s t : List ℕ} → Bytes s → Bytes t → Bytes (s ++ t)
+bytes-append {s} {t} b d = record {
+  below = λ k.
+      ⊎-elim
+      (λ (h : k < length s). rw (List·getD-append s t 0 k h) (b .below k))
+      (λ (h : length s ≤ k).
+      let e : k ≡ length s + (k - length s) = omega arith in
+      rw (e, getD-append-add s t (k - length s) 0) (d .below (k - length s)))
+      (ℕ-cases k (length s));
+}
 
 -- ---- reading
 -- by the part of the list
@@ -89,6 +116,16 @@ unfolding bytesOf
 length-bytesOf zero x = refl
 length-bytesOf (suc n) x = ap suc (length-bytesOf n (x / 256))
 
+-- each is a byte
+pub bytes-bytesOf : (n x : ℕ) → Bytes (bytesOf n x)
+unfolding bytesOf
+bytes-bytesOf n x = record { below = each n x }
+  where
+    each : (n x k : ℕ) → getD (bytesOf n x) k 0 < 256
+    each zero x k = lit< tt
+    each (suc n) x zero = mod-lt x (lit< tt)
+    each (suc n) x (suc k) = each n (x / 256) k
+
 -- the m lowest bytes, and the n next
 bytesOf-append : (m n a b : ℕ) → a < 256 ^ m → bytesOf (m + n) (a + 256 ^ m * b) ≡ bytesOf m a ++ bytesOf n b
 unfolding bytesOf
@@ -115,6 +152,12 @@ leOf-bytesOf (suc n) x h =
 
 pub leAt-bytesOf : (n x : ℕ) → x < 256 ^ n → leAt n 0 (bytesOf n x) ≡ x
 leAt-bytesOf n x h = rw (leAt-part, take-all n (bytesOf n x) (omega (arith, length-bytesOf n x))) (leOf-bytesOf n x h)
+
+-- and so do they between other bytes
+pub leAt-between : (n x at : ℕ) (s t : List ℕ) → length s ≡ at → x < 256 ^ n → leAt n at (s ++ (bytesOf n x ++ t)) ≡ x
+leAt-between n x at s t e h =
+    let b : at ≡ length s + 0 = omega arith in
+    rw (b, leAt-right n 0 s (bytesOf n x ++ t), leAt-left n 0 (bytesOf n x) t (omega (arith, length-bytesOf n x))) (leAt-bytesOf n x h)
 
 -- what is read is written again
 pub bytesOf-leAt : (n at : ℕ) {s : List ℕ} → Bytes s → at + n ≤ length s → bytesOf n (leAt n at s) ≡ take n (drop at s)
