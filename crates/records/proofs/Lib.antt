@@ -1,0 +1,3 @@
+-- The laws of what specs/ defines.
+pub mod Record
+pub mod Cursor

@@ -1,0 +1,74 @@
+-- Each way out says whether the record's end is in the file: the first two because its four bytes are not.
+use mathlib.Core.Path.{sym, ap₂, _∙_}
+use Prim.Native.Nat.{ℕ, _+_}
+use native.Mathlib.Omega.{arith}
+use borrow.Author.Needs.{needs}
+use denote.Ref.{now}
+use Rattle.records.specs.declared.Next.the-variants.{Record}
+use Rattle.records.proofs.Cursor.{whole-yes, whole-no, next-record, next-stop}
+use Rattle.records.proofs.next_at.Statement.{statement}
+use Rattle.records.proofs.next_at.Tie as tie
+
+returns : tie.Need-returns
+returns c = let a = c .before .before .args in sym (next-stop (now (a .file)) (a .at) (whole-no _ _ (omega arith)))
+
+sub-if2 : tie.Need-sub-if2
+sub-if2 c = search needs
+
+returns-2 : tie.Need-returns-2
+returns-2 c = let a = c .before .before .before .args in sym (next-stop (now (a .file)) (a .at) (whole-no _ _ (omega arith)))
+
+u16-at-requires : tie.Need-u16-at-requires
+u16-at-requires c κs = search needs
+
+cast-size : tie.Need-cast-size
+cast-size c = search needs
+
+add-u16-at : tie.Need-add-u16-at
+add-u16-at c = search needs
+
+u16-at-requires-2 : tie.Need-u16-at-requires-2
+u16-at-requires-2 c κs = search needs
+
+cast-kind : tie.Need-cast-kind
+cast-kind c = search needs
+
+add-start : tie.Need-add-start
+add-start c = search needs
+
+sub-if3 : tie.Need-sub-if3
+sub-if3 c = search needs
+
+returns-3 : tie.Need-returns-3
+returns-3 c =
+    let a = c .before .before .before .before .before .before .args in
+    let size = c .before .before .u16-at .ensures in
+    sym (next-stop (now (a .file)) (a .at) (whole-no _ _ (omega arith)))
+
+add-t8 : tie.Need-add-t8
+add-t8 c = search needs
+
+returns-4 : tie.Need-returns-4
+returns-4 c =
+    let a = c .before .before .before .before .before .before .args in
+    let size = c .before .before .u16-at .ensures in
+    let kind = c .before .u16-at2 .ensures in
+    ap₂ (λ (k n : ℕ). Record k (a .at + 4) (a .at + 4 + n)) kind size ∙ sym (next-record (now (a .file)) (a .at) (whole-yes _ _ (omega arith)))
+
+pub next-at-spec : {M : Type 1} → statement M
+next-at-spec =
+    tie.close
+    (tie.spec
+    returns
+    sub-if2
+    returns-2
+    u16-at-requires
+    cast-size
+    add-u16-at
+    u16-at-requires-2
+    cast-kind
+    add-start
+    sub-if3
+    returns-3
+    add-t8
+    returns-4)
