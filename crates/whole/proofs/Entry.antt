@@ -1,11 +1,12 @@
 -- The laws of entries by the papers' index.
-use mathlib.Core.Path.{_≡_, refl, sym, _∙_, subst}
+use mathlib.Core.Path.{_≡_, refl, sym, ap, _∙_, subst}
 use mathlib.Core.Logic.{⊎-elim}
 use Prim.Native.Nat.{ℕ, zero, suc, _+_, _≤_, _<_}
 use native.Mathlib.Numerals.{one-add}
 use native.Mathlib.Omega.{arith}
 use borrow.Author.Tests.{le-ltb, lt-ltb}
-use lib.ListN.{getD, List·getD-eq-default}
+use mathlib.Core.List.{List}
+use lib.ListN.{length, getD, List·getD-eq-default}
 use Rattle.whole.specs.Table.{table}
 use Rattle.whole.specs.Entry.{nth, cut, entry}
 use Rattle.whole.proofs.Laws.{ℕ-cases}
@@ -63,6 +64,12 @@ module _ {A : Type 0} (z : A) (n : ℕ) (f : ℕ → A) where
   nth-table m few zero = refl
   nth-table m few (suc j) = table-cut m few j
 
+-- an index that is 0 or past the last entry
+pub nth-outside : {A : Type 0} (z : A) (xs : List A) (k : ℕ) → (0 < k → length xs < k) → nth z xs k ≡ z
+unfolding nth
+nth-outside z xs zero h = refl
+nth-outside z xs (suc j) h = let l = h (omega arith) in List·getD-eq-default xs z (omega arith)
+
 -- what stands from n on plays no part
 pub entry-cong : {A : Type 0} (z : A) (n : ℕ) (f g : ℕ → A) → ((j : ℕ) → j < n → f j ≡ g j) → (k : ℕ) → entry z n f k ≡ entry z n g k
 unfolding entry
@@ -75,3 +82,14 @@ entry-cong z n f g h (suc j) = ⊎-elim
 -- the same with a count on either side
 pub entry-same : {A : Type 0} (z : A) {n m : ℕ} (f g : ℕ → A) → n ≡ m → ((j : ℕ) → j < n → f j ≡ g j) → (k : ℕ) → entry z n f k ≡ entry z m g k
 entry-same z {n} f g e h k = rw (← e) (entry-cong z n f g h k)
+
+-- a function that is z outside 1 to n, in an array: read by index, the array is the function
+pub table-held : {A : Type 0} (z : A) (f : ℕ → A) {n m : ℕ} → n ≤ m → f 0 ≡ z → ((k : ℕ) → n < k → f k ≡ z) → (k : ℕ) → nth z (table m n (λ k. f (1 + k)) z) k ≡ f k
+table-held {A} z f {n} {m} few before past k = nth-table z n (λ k. f (1 + k)) m few k ∙ go k
+  where
+    go : (k : ℕ) → entry z n (λ k. f (1 + k)) k ≡ f k
+    go zero = entry-zero z n (λ k. f (1 + k)) ∙ sym before
+    go (suc j) = ⊎-elim
+        (λ (l : j < n). entry-in z n (λ k. f (1 + k)) j l ∙ ap f (one-add j))
+        (λ (l : n ≤ j). entry-past z n (λ k. f (1 + k)) j l ∙ sym (past (suc j) (omega arith)))
+        (ℕ-cases j n)

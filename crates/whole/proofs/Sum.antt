@@ -2,7 +2,7 @@
 use mathlib.Core.Path.{_≡_, refl, sym, ap, ap₂, _∙_, subst}
 use mathlib.Core.Logic.{⊎-elim}
 use Prim.Native.Nat.{ℕ, zero, suc, _+_, _*_, _-_, _≤_, _<_, max}
-use native.Mathlib.Nat.{add-suc, add-zero, add-le-add, le-refl, mul-zero}
+use native.Mathlib.Nat.{add-suc, add-zero, add-le-add, mul-le-mul-left, le-refl, mul-zero}
 use native.Mathlib.Numerals.{add-one}
 use native.Mathlib.Omega.{arith}
 use lib.IntN.{ℤ, pos, natAbs, _+ℤ_, _-ℤ_, _*ℤ_}
@@ -11,7 +11,7 @@ use Rattle.whole.specs.Range.{Within}
 use Rattle.whole.specs.Sum.{sum, sumℕ, Σℤ, Σℕ, largest}
 use Rattle.whole.proofs.Bridge.{same, #, _⊕_, _⊗_, whole}
 use Rattle.whole.proofs.Laws.{ℕ-cases, +ℤ-mono, +ℤ-nonneg, -ℤ-swap, +ℤ-swap, *ℤ-dist-r}
-use Rattle.whole.proofs.Range.{within-add, within-abs, abs-within}
+use Rattle.whole.proofs.Range.{within-more, within-add, within-abs, abs-within, abs-self, within-mul}
 
 -- ---- sums of whole numbers
 pub sum-none : (g : ℕ → ℤ) → sum 0 g ≡ pos 0
@@ -126,6 +126,10 @@ sumℕ-more m (suc n) g h = ⊎-elim
     (λ (l : suc n ≤ m). let e : m ≡ suc n = omega arith in rw e (le-refl _))
     (ℕ-cases m (suc n))
 
+-- no term is above the sum
+pub sumℕ-one : (n : ℕ) (g : ℕ → ℕ) (k : ℕ) → k < n → g k ≤ sumℕ n g
+sumℕ-one n g k h = omega (arith, sumℕ-suc k g, sumℕ-more (suc k) n g h)
+
 -- where every value past m is 0, a longer sum is the same
 pub sumℕ-past : (m d : ℕ) (g : ℕ → ℕ) → ((k : ℕ) → m ≤ k → g k ≡ 0) → sumℕ (m + d) g ≡ sumℕ m g
 unfolding sumℕ
@@ -140,6 +144,11 @@ sum-pos (suc n) g = ap (λ (z : ℤ). z +ℤ pos (g n)) (sum-pos n g)
 
 pub sum-within : (n b : ℕ) (g : ℕ → ℤ) → ((k : ℕ) → k < n → Within b (g k)) → Within (n * b) (sum n g)
 sum-within n b g h = subst (λ (c : ℕ). Within c (sum n g)) (sumℕ-const n b) (sum-within-each n (λ k. b) g h)
+
+-- numbers within b, each times its part, where the parts come to c at most
+pub sum-within-parts : (n b c : ℕ) (g : ℕ → ℤ) (p : ℕ → ℕ) → ((k : ℕ) → k < n → Within b (g k)) → sumℕ n p ≤ c → Within (b * c) (sum n (λ k. g k *ℤ pos (p k)))
+sum-within-parts n b c g p h few = within-more {b = sumℕ n (λ k. b * p k)} (rw (sumℕ-scale n b p) (mul-le-mul-left b few))
+    (sum-within-each n (λ k. b * p k) (λ k. g k *ℤ pos (p k)) (λ k l. within-mul (h k l) (abs-self (pos (p k)))))
 
 -- ---- sums from a to b, as the papers write them
 pub Σℤ-cong : (a b : ℕ) (g h : ℕ → ℤ) → ((l : ℕ) → a ≤ l → l ≤ b → g l ≡ h l) → Σℤ a b g ≡ Σℤ a b h

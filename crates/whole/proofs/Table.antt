@@ -1,12 +1,14 @@
 -- The laws of a table.
 use Prim.Native.Nat.{ℕ, zero, suc, _+_, _≤_, _<_}
-use mathlib.Core.Path.{_≡_, refl, ap, ap₂, _∙_, sym}
-use mathlib.Core.List.{List, _∷_}
+use mathlib.Core.Path.{_≡_, refl, ap, ap₂, _∙_, sym, subst}
+use mathlib.Core.List.{List, [], _∷_, _++_}
+use mathlib.Core.Logic.{⊎-elim}
 use native.Mathlib.Nat.{not-suc-le-zero, le-of-suc-le-suc}
 use native.Mathlib.Numerals.{add-one}
 use native.Mathlib.Omega.{arith}
 use lib.ListN.{length, getD, set, replicate, length-replicate, getD-replicate}
 use Rattle.whole.specs.Table.{table}
+use Rattle.whole.proofs.Laws.{ℕ-cases}
 
 module _ {A : Type 0} where
   pub table-none : (m : ℕ) (f : ℕ → A) (d : A) → table m 0 f d ≡ replicate m d
@@ -44,6 +46,13 @@ module _ {A : Type 0} where
   table-past (suc m) (suc n) f d e zero h g = absurd (not-suc-le-zero h)
   table-past (suc m) (suc n) f d e (suc k) h g = table-past m n (λ i. f (suc i)) d e k (le-of-suc-le-suc h) (le-of-suc-le-suc g)
 
+  -- what holds of d and of each value holds at every place
+  pub table-each : (Q : A → Type 0) (m n : ℕ) (f : ℕ → A) (d e : A) → n ≤ m → Q d → ((k : ℕ) → k < n → Q (f k)) → (k : ℕ) → k < m → Q (getD (table m n f d) k e)
+  table-each Q m n f d e few q h k l = ⊎-elim
+      (λ (b : k < n). subst Q (sym (table-at m n f d e k b few)) (h k b))
+      (λ (b : n ≤ k). subst Q (sym (table-past m n f d e k b l)) q)
+      (ℕ-cases k n)
+
   pub table-cong : (m n : ℕ) (f g : ℕ → A) (d : A) → ((k : ℕ) → k < n → f k ≡ g k) → table m n f d ≡ table m n g d
   unfolding table
   table-cong m zero f g d h = refl
@@ -71,6 +80,15 @@ module _ {A : Type 0} where
   table-set (suc m) (suc n) f g d (suc j) h few e =
       ap₂ (λ (a : A) (l : List A). a ∷ l) (e zero (λ i. omega arith))
       (table-set m n (λ k. f (suc k)) (λ k. g (suc k)) d j (le-of-suc-le-suc h) (le-of-suc-le-suc few) (λ k n. e (suc k) (λ i. n (omega arith))))
+
+  -- one value more at the end of a table that is full
+  table-full : (n : ℕ) (f : ℕ → A) (d : A) → table (suc n) (suc n) f d ≡ table n n f d ++ (f n ∷ [])
+  unfolding table
+  table-full zero f d = refl
+  table-full (suc n) f d = ap (λ (l : List A). f zero ∷ l) (table-full n (λ k. f (suc k)) d)
+
+  pub table-last : (n : ℕ) (f : ℕ → A) (d : A) → table (n + 1) (n + 1) f d ≡ table n n f d ++ (f n ∷ [])
+  table-last n f d = rw add-one (table-full n f d)
 
   -- every place is d
   pub table-same : (m n : ℕ) (d : A) → table m n (λ k. d) d ≡ replicate m d

@@ -57,6 +57,12 @@ all-more n p h k = ap (λ (m : ℕ). all m p) (add-one n) ∙ ap₂ both h k
 pub all-end : {k : ℕ} (n : ℕ) (p : ℕ → Bool) → k ≤ n → n ≤ k → all k p ≡ true → all n p ≡ true
 all-end {k} n p h g e = let same : n ≡ k = omega arith in ap (λ (m : ℕ). all m p) same ∙ e
 
+-- what holds of each holds of all
+pub all-yes : (n : ℕ) (p : ℕ → Bool) → ((k : ℕ) → k < n → p k ≡ true) → all n p ≡ true
+unfolding all
+all-yes zero p h = refl
+all-yes (suc n) p h = ap₂ both (all-yes n p (λ k l. h k (omega arith))) (h n (omega arith))
+
 -- one fails
 pub all-fails : (n : ℕ) (p : ℕ → Bool) (i : ℕ) → i < n → p i ≡ false → all n p ≡ false
 unfolding all
