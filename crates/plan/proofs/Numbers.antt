@@ -55,7 +55,11 @@ module _ (plan : Plan) where
   unfolding rolloverOf
   rollover-is = entry-at 0 (plan .terms) (rolloverAt plan)
 
-  -- no share is rolled over past the last term
+  -- no share is rolled over before the first term, nor past the last
+  pub rollover-before : numbers plan .r 0 ≡ 0
+  unfolding rolloverOf
+  rollover-before = entry-zero 0 (plan .terms) (rolloverAt plan)
+
   pub rollover-past : (d : ℕ) → plan .terms < d → numbers plan .r d ≡ 0
   unfolding rolloverOf
   rollover-past = entry-beyond 0 (plan .terms) (rolloverAt plan)
