@@ -1,0 +1,93 @@
+-- What the refusal of a call says, the ways out of a call, what the core's answer tells, and that plans which agree are answered
+-- alike.
+use mathlib.Core.Path.{_≡_, refl, sym, ap, _∙_}
+use mathlib.Core.Bool.{true, false}
+use Prim.Native.Nat.{ℕ, zero, suc, _≤_}
+use native.Mathlib.Omega.{arith}
+use lib.IntN.{ℤ}
+use Rattle.whole.specs.Test.{isFrom}
+use Rattle.whole.proofs.Test.{picked-yes, picked-no, picked-is, from-low, from-high}
+use Rattle.reckoning.specs.Reckoning.{fund}
+use Rattle.reckoning.specs.Arrays.{fundFits, fundAnswer as fundReckoned}
+use Rattle.reckoning.specs.declared.Reckoned.{Reckoned}
+use Rattle.plan.specs.Numbers.{Numbers, numbers, Agree}
+use Rattle.plan.specs.Refusal.{answer, refusalOf, Accepted}
+use Rattle.plan.specs.declared.Plan.{Plan}
+use Rattle.plan.proofs.Numbers.{agree-same}
+use Rattle.plan.proofs.Checks.{check-true, first-some, first-none, first-next, answer-refused, answer-accepted, accepted}
+use Rattle.planner.specs.Calls.{callRefusal, fundAnswer, boundAnswer, formAnswer, gammasAnswer}
+
+-- ---- the refusal of a call on pattern t
+module _ (P : Numbers) (t : ℕ) where
+  pub refused-plan : {number : ℕ} → number ≡ refusalOf P → (number ≡ 0 → ⊥) → number ≡ callRefusal P t
+  unfolding callRefusal
+  refused-plan e h = e ∙ sym (first-some (refusalOf P) _ (λ z. h (e ∙ z)))
+
+  pub refused-pattern : refusalOf P ≡ 0 → isFrom 1 (P .patterns) t ≡ false → 10 ≡ callRefusal P t
+  unfolding callRefusal
+  refused-pattern e f = rw (e, f)
+
+  pub refused-none : refusalOf P ≡ 0 → isFrom 1 (P .patterns) t ≡ true → 0 ≡ callRefusal P t
+  unfolding callRefusal
+  refused-none e f = rw (e, f)
+
+-- what a call that is not refused has: an accepted plan, and one of its patterns
+pub record Called (plan : Plan) (t : ℕ) : Type 0 where
+  pub plan-ok : Accepted (numbers plan)
+  pub some : 1 ≤ t
+  pub few : t ≤ plan .patterns
+
+pub called : (plan : Plan) (t : ℕ) → callRefusal (numbers plan) t ≡ 0 → Called plan t
+unfolding callRefusal
+called plan t e =
+    let P = numbers plan in
+    let ok = check-true (isFrom 1 (P .patterns) t) 10 0 (omega arith) (first-next (refusalOf P) _ e) in
+    record {
+      plan-ok = accepted plan (first-none (refusalOf P) _ e);
+      some = from-low 1 (P .patterns) t ok;
+      few = from-high 1 (P .patterns) t ok;
+    }
+
+-- ---- the ways out of a call, by the refusal that it found
+module _ {A : Type 0} (refused : ℕ → A) {number : ℕ} where
+  pub out-refused : {found : ℕ} (s : A) → found ≡ number → (found ≡ 0 → ⊥) → refused found ≡ answer refused number s
+  out-refused {found} s e h = sym (answer-refused refused found s h) ∙ ap (λ (n : ℕ). answer refused n s) e
+
+  pub out-accepted : {s x : A} → number ≡ 0 → x ≡ s → x ≡ answer refused number s
+  out-accepted {s} e f = f ∙ sym (answer-accepted refused number s e)
+
+  -- an answer that has no number of a refusal was not refused
+  pub not-refused : (refusal : A → ℕ) → ((n : ℕ) → refusal (refused n) ≡ n) → (s : A) → refusal (answer refused number s) ≡ 0 → number ≡ 0
+  not-refused refusal same s e = go number e
+    where
+      go : (n : ℕ) → refusal (answer refused n s) ≡ 0 → n ≡ 0
+      go zero f = refl
+      go (suc n) f = sym (same (suc n)) ∙ f
+
+-- ---- what the core's answer for a flow f tells
+module _ (r : ℕ → ℕ) (i f : ℕ → ℤ) (N : ℕ) {s : Reckoned} (e : s ≡ fundReckoned r i f N) where
+  pub reckoned-refused : (s .refusal ≡ 0 → ⊥) → fundFits r i f N ≡ false
+  unfolding fundReckoned
+  reckoned-refused = picked-no (λ (s : Reckoned). s .refusal) _ _ refl (λ z. omega arith) (fundFits r i f N) s e
+
+  pub reckoned-fits : s .refusal ≡ 0 → fundFits r i f N ≡ true
+  unfolding fundReckoned
+  reckoned-fits = picked-yes (λ (s : Reckoned). s .refusal) _ _ refl (λ z. omega arith) (fundFits r i f N) s e
+
+  pub reckoned-is : s .refusal ≡ 0 → s .fund ≡ fund r i N f
+  unfolding fundReckoned
+  reckoned-is h = ap (λ (s : Reckoned). s .fund) (picked-is (λ (s : Reckoned). s .refusal) _ _ refl (λ z. omega arith) (fundFits r i f N) s e h)
+
+-- ---- entries past N, n, q and m play no part in any answer
+module _ (x y : Plan) (h : Agree x y) (t : ℕ) where
+  pub agree-fund : fundAnswer (numbers x) t ≡ fundAnswer (numbers y) t
+  agree-fund = ap (λ (P : Numbers). fundAnswer P t) (agree-same x y h)
+
+  pub agree-bound : boundAnswer (numbers x) t ≡ boundAnswer (numbers y) t
+  agree-bound = ap (λ (P : Numbers). boundAnswer P t) (agree-same x y h)
+
+  pub agree-form : formAnswer (numbers x) t ≡ formAnswer (numbers y) t
+  agree-form = ap (λ (P : Numbers). formAnswer P t) (agree-same x y h)
+
+  pub agree-gammas : gammasAnswer (numbers x) t ≡ gammasAnswer (numbers y) t
+  agree-gammas = ap (λ (P : Numbers). gammasAnswer P t) (agree-same x y h)

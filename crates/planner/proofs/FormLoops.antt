@@ -1,0 +1,44 @@
+-- The loop of the coefficients: the funds of n flows, one after the other, unless check 11 refuses one.
+use mathlib.Core.Path.{_≡_}
+use mathlib.Core.Bool.{true}
+use mathlib.Core.List.{List}
+use Prim.Native.Nat.{ℕ, _+_, _≤_, _<_}
+use lib.ListN.{set, replicate}
+use lib.IntN.{ℤ, pos}
+use Rattle.whole.specs.Test.{pick, all}
+use Rattle.whole.specs.Table.{table}
+use Rattle.whole.proofs.Test.{all-none, all-more, all-end, all-fails}
+use Rattle.reckoning.specs.Reckoning.{fund}
+use Rattle.reckoning.specs.Arrays.{fundFits, fundAnswer}
+use Rattle.reckoning.specs.declared.Reckoned.{Reckoned}
+use Rattle.planner.specs.declared.Coefficients.{Coefficients}
+use Rattle.planner.proofs.ArrayLoops.{Filling, fill-start, fill-turn, fill-end}
+use Rattle.planner.proofs.Answers.{reckoned-refused, reckoned-fits, reckoned-is}
+
+-- k has the funds of the flows f 0 to f (j - 1), and check 11 takes them
+pub record Funded (r : ℕ → ℕ) (i : ℕ → ℤ) (f : ℕ → ℕ → ℤ) (N n : ℕ) (k : List ℤ) (j : ℕ) : Type 0 where
+  pub filled : Filling 16 n (λ j. fund r i N (f j)) (pos 0) k j
+  pub fit : all j (λ j. fundFits r i (f j) N) ≡ true
+
+module _ (r : ℕ → ℕ) (i : ℕ → ℤ) (f : ℕ → ℕ → ℤ) (N n : ℕ) where
+  -- all of them, unless check 11 refuses one
+  abbrev pub fundsOf : Coefficients
+  fundsOf = pick (all n (λ j. fundFits r i (f j) N))
+      (record { refusal = 0; values = table 16 n (λ j. fund r i N (f j)) (pos 0) })
+      (record { refusal = 11; values = replicate 16 (pos 0) })
+
+  pub funds-start : Funded r i f N n (replicate 16 (pos 0)) 0
+  funds-start = record { filled = fill-start; fit = all-none _ }
+
+  module _ {j : ℕ} (l : j < n) {s : Reckoned} (e : s ≡ fundAnswer r i (f j) N) where
+    pub funds-turn : {k : List ℤ} → n ≤ 16 → Funded r i f N n k j → s .refusal ≡ 0 → Funded r i f N n (set k j (s .fund)) (j + 1)
+    funds-turn few a h = record {
+      filled = fill-turn few l (a .filled) (reckoned-is r i (f j) N e h);
+      fit = all-more j (λ j. fundFits r i (f j) N) (a .fit) (reckoned-fits r i (f j) N e h);
+    }
+
+    pub funds-refuse : (s .refusal ≡ 0 → ⊥) → record { refusal = 11; values = replicate 16 (pos 0) } ≡ fundsOf
+    funds-refuse h = rw (all-fails n (λ j. fundFits r i (f j) N) j l (reckoned-refused r i (f j) N e h))
+
+  pub funds-end : {k : List ℤ} {j : ℕ} → n ≤ j → Funded r i f N n k j → record { refusal = 0; values = k } ≡ fundsOf
+  funds-end l a = rw (fill-end l (a .filled), all-end n (λ j. fundFits r i (f j) N) (a .filled .upto) l (a .fit))

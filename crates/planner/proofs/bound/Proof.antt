@@ -1,0 +1,50 @@
+-- `planner::bound` is B of the pattern's rates.
+use mathlib.Core.Path.{_≡_, sym, ap, _∙_}
+use Prim.Native.Nat.{ℕ}
+use borrow.Author.Needs.{needs}
+use lib.IntN.{ℤ, pos}
+use mir.Syntax.{w64}
+use mir.Val.{SFits}
+use Rattle.whole.proofs.Range.{back, ok64}
+use Rattle.reckoning.specs.Bound.{h, B}
+use Rattle.plan.specs.Numbers.{numbers}
+use Rattle.planner.specs.Calls.{noBound, callRefusal, boundOf, boundAnswer}
+use Rattle.planner.proofs.Held.{years}
+use Rattle.planner.proofs.Answers.{Called, called, out-refused, out-accepted}
+use Rattle.planner.proofs.Prepared.{pattern-rates, pattern-held}
+use Rattle.planner.proofs.bound.Statement.{statement}
+use Rattle.planner.proofs.bound.Tie as tie
+
+call-refusal-requires : tie.Need-call-refusal-requires
+call-refusal-requires c κs = search needs
+
+returns : tie.Need-returns
+unfolding boundAnswer
+returns c = out-refused noBound _ (c .before .call-refusal .ensures) (c .if1 .taken)
+
+-- the call is not refused
+module _ (c : tie.Else1) where
+  none : callRefusal (numbers (c .before .before .args .plan)) (c .before .before .args .t) ≡ 0
+  none = sym (c .before .call-refusal .ensures) ∙ c .if1 .left
+
+  ok : Called (c .before .before .args .plan) (c .before .before .args .t)
+  ok = called _ _ none
+
+rates-of-requires : tie.Need-rates-of-requires
+rates-of-requires c κs = (ok c .plan-ok, (ok c .some, ok c .few))
+
+bound-requires : tie.Need-bound-requires
+bound-requires c κs = let o = ok (c .before) in (pattern-rates _ _ o (c .rates-of .ensures), years _ (o .plan-ok))
+
+returns-2 : tie.Need-returns-2
+unfolding boundAnswer boundOf
+returns-2 c =
+    let f : SFits w64 (c .bound .result) = ok64 (c .bound .result) (c .bound .ok) in
+    let e = c .before .before in
+    let N = e .before .before .args .plan .years in
+    let is = c .bound .ensures .0 ∙ ap (λ (i : ℕ → ℤ). pos (B (h i N) N)) (pattern-held _ _ (ok e) (c .before .rates-of .ensures)) in
+    simp back (out-accepted noBound (none e) (ap (λ (b : ℤ). record { refusal = 0; bound = b }) is))
+
+pub bound-spec : {M : Type 1} → statement M
+bound-spec =
+    tie.close (tie.spec call-refusal-requires returns rates-of-requires bound-requires returns-2)

@@ -1,0 +1,110 @@
+-- `planner::form_at`: the coefficients, the constant, and the value that they make at the plan's allocation (FormLaws).
+use mathlib.Core.Path.{_≡_, _∙_}
+use borrow.Author.Needs.{needs}
+use lib.IntN.{negℤ, _+ℤ_}
+use mir.Syntax.{w64}
+use mir.Val.{SFits}
+use Rattle.whole.specs.Range.{million}
+use Rattle.whole.specs.Floor.{floor}
+use Rattle.whole.proofs.Range.{back, ok64}
+use Rattle.reckoning.specs.Bound.{value}
+use Rattle.reckoning.specs.Arrays.{ratesOf, fundAnswer}
+use Rattle.plan.specs.Numbers.{Numbers, numbers}
+use Rattle.planner.specs.Arrays.{Weighable}
+use Rattle.planner.proofs.Held.{years}
+use Rattle.planner.proofs.Weighing.{weighted-within}
+use Rattle.planner.proofs.FormLaws.{coefficients-refused, constant-refused, constant-of, form-made, weighable, value-is, value-fits}
+use Rattle.planner.proofs.Prepared.{common-ready, outflow-in, constant-is}
+use Rattle.planner.proofs.form_at.Statement.{statement}
+use Rattle.planner.proofs.form_at.Tie as tie
+
+coefficients-of-requires : tie.Need-coefficients-of-requires
+coefficients-of-requires c κs = search needs
+
+no-form-requires : tie.Need-no-form-requires
+no-form-requires c κs = search needs
+
+returns : tie.Need-returns
+returns c = c .no-form .ensures ∙ coefficients-refused _ _ (c .before .before .coefficients-of .ensures) (c .before .if1 .taken)
+
+fund-requires : tie.Need-fund-requires
+fund-requires c κs =
+    let s = c .before .before .before .before .before .pre in
+    (common-ready _ (s .0) (s .1 .0) (s .1 .1), (outflow-in _ (s .0) (s .1 .0), years _ (s .0)))
+
+no-form-requires-2 : tie.Need-no-form-requires-2
+no-form-requires-2 c κs = search needs
+
+-- the constant, and coefficients that can be weighed
+module _ (c : tie.After-fund) where
+  abbrev start : tie.Start
+  start = c .before .before .before .before .before .before
+
+  abbrev P : Numbers
+  P = numbers (start .args .plan)
+
+  constant : c .fund .result ≡ fundAnswer (P .r) (ratesOf (start .args .i)) (λ k. negℤ (P .o k)) (P .years)
+  constant = c .fund .ensures .0 ∙ constant-is _ (start .pre .0) (start .pre .1 .0) _
+
+  abbrev given : tie.Else1
+  given = c .before .before .before .before
+
+  weighed : Weighable (P .instruments) (given .before .coefficients-of .result .values) (start .args .plan .allocation)
+  weighed = weighable _ (start .pre .0) _ (given .before .coefficients-of .ensures) (given .if1 .left)
+
+returns-2 : tie.Need-returns-2
+returns-2 c = c .no-form2 .ensures ∙ constant-refused _ _ (constant (c .before .before)) (c .before .if2 .taken)
+
+weighted-requires : tie.Need-weighted-requires
+weighted-requires c κs = weighed (c .before .before .before)
+
+down-requires : tie.Need-down-requires
+down-requires c κs =
+    let f : SFits w64 (c .before .weighted .result) = ok64 (c .before .weighted .result) (c .before .weighted .ok) in
+    simp back (weighted-within (weighed (c .before .before .before .before .before)) (c .before .weighted .ensures))
+
+-- the value
+module _ (c : tie.After-down) where
+  abbrev o : tie.After-fund
+  o = c .before .before .before .before .before .before
+
+  down-fits : SFits w64 (c .down .result)
+  down-fits = ok64 (c .down .result) (c .down .ok)
+
+  constant-fits : SFits w64 (o .fund .result .fund)
+  constant-fits = search (needs, c .before .struct-told .given)
+
+  down-is : c .down .result ≡ floor (c .before .before .weighted .result) million
+  down-is = simp (back, ok64 (c .before .before .weighted .result) (c .before .before .weighted .ok)) at (c .down .ensures)
+
+  sum-fits : SFits w64 (c .down .result +ℤ o .fund .result .fund)
+  sum-fits = value-fits down-is (weighted-within (weighed o) (c .before .before .weighted .ensures)) (o .fund .ensures .1)
+
+  sum-is : c .down .result +ℤ o .fund .result .fund ≡ value (P o .a) (P o .o) (P o .r) (ratesOf (start o .args .i)) (P o .years) (P o .instruments) (P o .p)
+  sum-is =
+      let q = constant-of (P o) _ (constant o) (c .before .before .before .before .before .if2 .left) in
+      value-is _ (start o .pre .0) _ (given o .before .coefficients-of .ensures) (given o .if1 .left) down-is (c .before .before .weighted .ensures) q
+
+add-t20 : tie.Need-add-t20
+add-t20 c = simp (back, down-fits c, constant-fits c) (sum-fits c)
+
+returns-3 : tie.Need-returns-3
+returns-3 c =
+    let g = given (o c) in
+    simp (back, down-fits c, constant-fits c, sum-fits c)
+    (form-made _ _ (constant (o c)) (g .before .coefficients-of .ensures) (g .if1 .left) (c .before .before .before .before .before .if2 .left) (sum-is c))
+
+pub form-at-spec : {M : Type 1} → statement M
+form-at-spec =
+    tie.close
+    (tie.spec
+    coefficients-of-requires
+    no-form-requires
+    returns
+    fund-requires
+    no-form-requires-2
+    returns-2
+    weighted-requires
+    down-requires
+    add-t20
+    returns-3)

@@ -1,0 +1,57 @@
+-- What the code prepares of a plan for the core: arrays that hold the plan's numbers P, with zeros past N, n and q.
+use mathlib.Core.List.{List}
+use Prim.Native.Nat.{ℕ, _+_, _-_, _≤_, _<_}
+use lib.ListN.{getD, replicate}
+use lib.IntN.{ℤ, pos, negℤ}
+use Rattle.whole.specs.Range.{million, limit, Within}
+use Rattle.whole.specs.Sum.{sumℕ}
+use Rattle.whole.specs.Test.{pick}
+use Rattle.whole.specs.Table.{table}
+use Rattle.reckoning.specs.Bound.{K}
+use Rattle.reckoning.specs.Arrays.{noRow, weightsOf}
+use Rattle.reckoning.specs.declared.Row.{Row}
+use Rattle.plan.specs.Numbers.{Numbers}
+use Rattle.planner.specs.declared.Common.{Common}
+use Rattle.planner.specs.declared.Coefficients.{Coefficients}
+use Rattle.planner.specs.Calls.{flowOf, coefficientsFit}
+
+module _ (P : Numbers) where
+  unfoldable pub rolloverArray : List ℤ
+  rolloverArray = table 30 (P .terms) (λ d. pos (P .r (1 + d))) (pos 0)
+
+  unfoldable pub ratesArray : (t : ℕ) → List ℤ
+  ratesArray t = table 30 (P .years - 1) (λ l. P .i t (2 + l)) (pos 0)
+
+  unfoldable pub flowArray : List ℤ
+  flowArray = table 30 (P .years) (λ k. flowOf P (1 + k)) (pos 0)
+
+  unfoldable pub outflowArray : List ℤ
+  outflowArray = table 30 (P .years) (λ k. negℤ (P .o (1 + k))) (pos 0)
+
+  unfoldable pub paymentsRow : (j : ℕ) → Row
+  paymentsRow j = record { values = table 30 (P .years) (λ k. P .a (1 + k) (1 + j)) (pos 0) }
+
+  unfoldable pub paymentsRows : List Row
+  paymentsRows = table 16 (P .instruments) paymentsRow noRow
+
+  -- what all patterns of a plan share
+  unfoldable pub commonOf : Common
+  commonOf = record {
+    rollover = rolloverArray;
+    weights = weightsOf (P .r);
+    flow = flowArray;
+    outflow = outflowArray;
+    payments = paymentsRows;
+  }
+
+  -- K_1 to K_n at the rates i, unless check 11 refuses one
+  unfoldable pub coefficientsOf : (i : ℕ → ℤ) → Coefficients
+  coefficientsOf i = pick (coefficientsFit P i)
+      (record { refusal = 0; values = table 16 (P .instruments) (λ j. K (P .a) (P .o) (P .r) i (P .years) (1 + j)) (pos 0) })
+      (record { refusal = 11; values = replicate 16 (pos 0) })
+
+-- n coefficients within the limit, and parts of at most 1,000,000 together
+pub record Weighable (n : ℕ) (k : List ℤ) (p : List ℕ) : Type 0 where
+  pub few : n ≤ 16
+  pub coefficient : (j : ℕ) → j < n → Within limit (getD k j (pos 0))
+  pub parts : sumℕ n (λ j. getD p j 0) ≤ million

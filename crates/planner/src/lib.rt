@@ -1,0 +1,368 @@
+// The calls open to callers. Each takes any plan and any pattern number, and its contract says the whole answer.
+use plan::Plan;
+use reckoning::GammaTable;
+use reckoning::Reckoned;
+use reckoning::Row;
+ghost use mathlib.Core.Path.{_≡_};
+ghost use Prim.Native.Nat.{_+_, _≤_, _<_};
+ghost use lib.ListN.{getD};
+ghost use lib.IntN.{pos, _*ℤ_};
+ghost use Rattle.whole.specs.Sum.{sum};
+ghost use Rattle.whole.specs.Table.{table};
+ghost use Rattle.reckoning.specs.Arrays.{ratesOf, Rates};
+ghost use Rattle.plan.specs.Numbers.{numbers};
+ghost use Rattle.plan.specs.Refusal.{Accepted};
+ghost use Rattle.reckoning.specs.Reckoning.{paid as paidOf};
+ghost use Rattle.planner.specs.Calls.{noForm, callRefusal, fundAnswer, boundAnswer, gammasAnswer, formReckoned, formAnswer};
+ghost use Rattle.planner.specs.Arrays.{rolloverArray, ratesArray, flowArray, outflowArray, paymentsRows, commonOf, coefficientsOf, Weighable};
+ghost use Rattle.planner.specs.Demand3.{FundNear, FormNear};
+
+pub struct BoundAnswer {
+    pub refusal: u8,
+    pub bound: i64,
+}
+
+pub struct FormAnswer {
+    pub refusal: u8,
+    pub coefficients: [i64; 16],
+    pub constant: i64,
+    pub value: i64,
+}
+
+// What all patterns of a plan share: the rollover and its weights, and every flow that is reckoned.
+pub struct Common {
+    pub rollover: [i64; 30],
+    pub weights: [i64; 30],
+    pub flow: [i64; 30],
+    pub outflow: [i64; 30],
+    pub payments: [Row; 16],
+}
+
+pub struct Coefficients {
+    pub refusal: u8,
+    pub values: [i64; 16],
+}
+
+// ---- a plan's numbers, as the core takes them
+
+fn wide(x: u32) -> i64
+    ensures { λ s. ⌜ s ≡ pos x ⌝ }
+{
+    x as i64
+}
+
+// The first n numbers, and zeros.
+fn widened(xs: [u32; 30], n: usize) -> [i64; 30]
+    requires { ⌜ n ≤ 30 ⌝ }
+    ensures { λ s. ⌜ s ≡ table 30 n (λ k. pos (getD xs k 0)) (pos 0) ⌝ }
+{
+    let mut v = [0i64; 30];
+    for k in 0..n {
+        v[k] = wide(xs[k]);
+    }
+    v
+}
+
+// The first n amounts, and zeros.
+fn cut(xs: [i64; 30], n: usize) -> [i64; 30]
+    requires { ⌜ n ≤ 30 ⌝ }
+    ensures { λ s. ⌜ s ≡ table 30 n (λ k. getD xs k (pos 0)) (pos 0) ⌝ }
+{
+    let mut v = [0i64; 30];
+    for k in 0..n {
+        v[k] = xs[k];
+    }
+    v
+}
+
+// r_1 to r_q.
+fn rollover_of(plan: Plan) -> [i64; 30]
+    requires { ⌜ Accepted (numbers plan) ⌝ }
+    ensures { λ s. ⌜ s ≡ rolloverArray (numbers plan) ⌝ }
+{
+    let xs = plan.rollover;
+    let q = plan.terms;
+    widened(xs, q)
+}
+
+// i_2 to i_N of pattern t.
+fn rates_of(plan: Plan, t: usize) -> [i64; 30]
+    requires { ⌜ Accepted (numbers plan) ⌝ }
+    requires { ⌜ 1 ≤ t ⌝ }
+    requires { ⌜ t ≤ plan .patterns ⌝ }
+    ensures { λ s. ⌜ s ≡ ratesArray (numbers plan) t ⌝ }
+{
+    let at = t - 1;
+    let row = plan.pattern[at];
+    let xs = row.rates;
+    let years = plan.years;
+    widened(xs, years - 1)
+}
+
+// What the allocation pays in year k + 1, in millionths.
+fn paid(plan: Plan, k: usize) -> i64
+    requires { ⌜ Accepted (numbers plan) ⌝ }
+    requires { ⌜ k < plan .years ⌝ }
+    ensures { λ s. ⌜ s ≡ paidOf (plan .instruments) (numbers plan .a) (numbers plan .p) (1 + k) ⌝ }
+{
+    let n = plan.instruments;
+    let mut s: i64 = 0;
+    for j in 0..n {
+        let row = plan.instrument[j];
+        let x = row.payments[k];
+        let p = wide(plan.allocation[j]);
+        s += x * p;
+    }
+    s
+}
+
+// The allocation's flow.
+fn flow_of(plan: Plan) -> [i64; 30]
+    requires { ⌜ Accepted (numbers plan) ⌝ }
+    ensures { λ s. ⌜ s ≡ flowArray (numbers plan) ⌝ }
+{
+    let years = plan.years;
+    let mut v = [0i64; 30];
+    for k in 0..years {
+        let z = paid(plan, k);
+        v[k] = whole::down(z) - plan.outflows[k];
+    }
+    v
+}
+
+// The flow -o.
+fn outflow_of(plan: Plan) -> [i64; 30]
+    requires { ⌜ Accepted (numbers plan) ⌝ }
+    ensures { λ s. ⌜ s ≡ outflowArray (numbers plan) ⌝ }
+{
+    let years = plan.years;
+    let mut v = [0i64; 30];
+    for k in 0..years {
+        v[k] = 0 - plan.outflows[k];
+    }
+    v
+}
+
+// The payments of each instrument.
+fn payments_of(plan: Plan) -> [Row; 16]
+    requires { ⌜ Accepted (numbers plan) ⌝ }
+    ensures { λ s. ⌜ s ≡ paymentsRows (numbers plan) ⌝ }
+{
+    let n = plan.instruments;
+    let years = plan.years;
+    let none = Row { values: [0; 30] };
+    let mut rows = [none; 16];
+    for j in 0..n {
+        let one = plan.instrument[j];
+        let xs = one.payments;
+        let v = cut(xs, years);
+        rows[j] = Row { values: v };
+    }
+    rows
+}
+
+fn common_of(plan: Plan) -> Common
+    requires { ⌜ Accepted (numbers plan) ⌝ }
+    ensures { λ s. ⌜ s ≡ commonOf (numbers plan) ⌝ }
+{
+    let q = plan.terms;
+    let r = rollover_of(plan);
+    let w = reckoning::weights(r, q);
+    let x = flow_of(plan);
+    let o = outflow_of(plan);
+    let p = payments_of(plan);
+    Common {
+        rollover: r,
+        weights: w,
+        flow: x,
+        outflow: o,
+        payments: p,
+    }
+}
+
+// ---- the form at given rates
+
+// K_1 to K_n.
+fn coefficients_of(plan: Plan, common: Common, i: [i64; 30]) -> Coefficients
+    requires { ⌜ Accepted (numbers plan) ⌝ }
+    requires { ⌜ common ≡ commonOf (numbers plan) ⌝ }
+    requires { ⌜ Rates i ⌝ }
+    ensures { λ s. ⌜ s ≡ coefficientsOf (numbers plan) (ratesOf i) ⌝ }
+{
+    let n = plan.instruments;
+    let years = plan.years;
+    let q = plan.terms;
+    let r = common.rollover;
+    let w = common.weights;
+    let mut k = [0i64; 16];
+    for j in 0..n {
+        let row = common.payments[j];
+        let x = row.values;
+        let c = reckoning::fund(x, r, w, i, years, q);
+        let no = c.refusal;
+        if no != 0 {
+            return Coefficients {
+                refusal: 11,
+                values: [0i64; 16],
+            };
+        }
+        let z = c.fund;
+        k[j] = z;
+    }
+    Coefficients {
+        refusal: 0,
+        values: k,
+    }
+}
+
+// The sum of n coefficients, each times its part.
+fn weighted(k: [i64; 16], p: [u32; 16], n: usize) -> i64
+    requires { ⌜ Weighable n k p ⌝ }
+    ensures { λ s. ⌜ s ≡ sum n (λ j. getD k j (pos 0) *ℤ pos (getD p j 0)) ⌝ }
+{
+    let mut s: i64 = 0;
+    for j in 0..n {
+        let f = wide(p[j]);
+        s += k[j] * f;
+    }
+    s
+}
+
+fn no_form(refusal: u8) -> FormAnswer
+    ensures { λ s. ⌜ s ≡ noForm refusal ⌝ }
+{
+    FormAnswer {
+        refusal: refusal,
+        coefficients: [0i64; 16],
+        constant: 0,
+        value: 0,
+    }
+}
+
+// K_1 to K_n, Q and the value at the plan's allocation.
+fn form_at(plan: Plan, common: Common, i: [i64; 30]) -> FormAnswer
+    requires { ⌜ Accepted (numbers plan) ⌝ }
+    requires { ⌜ common ≡ commonOf (numbers plan) ⌝ }
+    requires { ⌜ Rates i ⌝ }
+    ensures { λ s. ⌜ s ≡ formReckoned (numbers plan) (ratesOf i) ⌝ }
+{
+    let c = coefficients_of(plan, common, i);
+    let no = c.refusal;
+    if no != 0 {
+        return no_form(11);
+    }
+    let years = plan.years;
+    let q = plan.terms;
+    let r = common.rollover;
+    let w = common.weights;
+    let o = common.outflow;
+    let d = reckoning::fund(o, r, w, i, years, q);
+    let also = d.refusal;
+    if also != 0 {
+        return no_form(11);
+    }
+    let k = c.values;
+    let p = plan.allocation;
+    let n = plan.instruments;
+    let z = weighted(k, p, n);
+    let constant = d.fund;
+    FormAnswer {
+        refusal: 0,
+        coefficients: k,
+        constant: constant,
+        value: whole::down(z) + constant,
+    }
+}
+
+// ---- the calls
+
+// The first of the checks 3, 6 to 9 and 10 that a call on pattern t fails; 0 if none.
+fn call_refusal(plan: Plan, t: usize) -> u8
+    ensures { λ s. ⌜ s ≡ callRefusal (numbers plan) t ⌝ }
+{
+    let no = plan::refusal(plan);
+    if no != 0 {
+        return no;
+    }
+    if t < 1 {
+        return 10;
+    }
+    let m = plan.patterns;
+    if t > m {
+        return 10;
+    }
+    0
+}
+
+// The fund of the plan's allocation in pattern t.
+pub fn fund(plan: Plan, t: usize) -> Reckoned
+    ensures is { λ s. ⌜ s ≡ fundAnswer (numbers plan) t ⌝ }
+    ensures near { λ s. ⌜ FundNear (numbers plan) t s ⌝ }
+{
+    let no = call_refusal(plan, t);
+    if no != 0 {
+        return Reckoned {
+            refusal: no,
+            fund: 0,
+        };
+    }
+    let years = plan.years;
+    let q = plan.terms;
+    let r = rollover_of(plan);
+    let w = reckoning::weights(r, q);
+    let i = rates_of(plan, t);
+    let x = flow_of(plan);
+    reckoning::fund(x, r, w, i, years, q)
+}
+
+// The bound B of pattern t, in amounts.
+pub fn bound(plan: Plan, t: usize) -> BoundAnswer
+    ensures { λ s. ⌜ s ≡ boundAnswer (numbers plan) t ⌝ }
+{
+    let no = call_refusal(plan, t);
+    if no != 0 {
+        return BoundAnswer {
+            refusal: no,
+            bound: 0,
+        };
+    }
+    let years = plan.years;
+    let rates = rates_of(plan, t);
+    let b = reckoning::bound(rates, years);
+    BoundAnswer {
+        refusal: 0,
+        bound: b,
+    }
+}
+
+// The linear form of pattern t: K_1 to K_n, Q, and its value at the plan's allocation.
+pub fn form(plan: Plan, t: usize) -> FormAnswer
+    ensures is { λ s. ⌜ s ≡ formAnswer (numbers plan) t ⌝ }
+    ensures near { λ s. ⌜ FormNear (numbers plan) t s ⌝ }
+{
+    let no = call_refusal(plan, t);
+    if no != 0 {
+        return no_form(no);
+    }
+    let common = common_of(plan);
+    form_at(plan, common, rates_of(plan, t))
+}
+
+// The table of gammas of pattern t.
+pub fn gammas(plan: Plan, t: usize) -> GammaTable
+    ensures { λ s. ⌜ s ≡ gammasAnswer (numbers plan) t ⌝ }
+{
+    let no = call_refusal(plan, t);
+    if no != 0 {
+        let none = Row { values: [0; 30] };
+        return GammaTable {
+            refusal: no,
+            rows: [none; 30],
+        };
+    }
+    let years = plan.years;
+    let q = plan.terms;
+    let r = rollover_of(plan);
+    let w = reckoning::weights(r, q);
+    reckoning::gammas(r, w, rates_of(plan, t), years, q)
+}
