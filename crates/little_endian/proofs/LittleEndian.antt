@@ -42,6 +42,13 @@ bytes-take n {s} b = record {
       (ℕ-cases k n);
 }
 
+pub bytes-cons : {x : ℕ} {s : List ℕ} → x < 256 → Bytes s → Bytes (x ∷ s)
+bytes-cons {x} {s} h b = record { below = each }
+  where
+    each : (k : ℕ) → getD (x ∷ s) k 0 < 256
+    each zero = h
+    each (suc k) = b .below k
+
 pub bytes-append : {s t : List ℕ} → Bytes s → Bytes t → Bytes (s ++ t)
 bytes-append {s} {t} b d = record {
   below = λ k.

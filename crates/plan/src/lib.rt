@@ -32,7 +32,7 @@ pub struct Plan {
     pub allocation: [u32; 16],
 }
 
-fn is_from(low: usize, high: usize, x: usize) -> bool
+pub fn is_from(low: usize, high: usize, x: usize) -> bool
     ensures { λ b. ⌜ b ≡ isFrom low high x ⌝ }
 {
     if x < low {

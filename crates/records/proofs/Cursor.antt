@@ -16,6 +16,7 @@ use Rattle.whole.proofs.Laws.{ℕ-cases}
 use Rattle.whole.proofs.Test.{both-first, both-second}
 use Rattle.little_endian.specs.LittleEndian.{Bytes, leAt}
 use Rattle.little_endian.proofs.LittleEndian.{bytesOf-leAt, bytes-take, bytes-drop}
+use Rattle.records.specs.declared.Next.{Next}
 use Rattle.records.specs.declared.Next.the-variants.{Record, Stop}
 use Rattle.records.specs.Record.{Rec, recordBytes, fileBytes}
 use Rattle.records.specs.Cursor.{sizeFrom, endFrom, wholeAt, nextAt, wholeFrom, wholeFile, place, kindAt, bodyAt}
@@ -83,6 +84,10 @@ unfolding place
 place-none s = refl
 
 module _ (s : List ℕ) (t : ℕ) where
+  -- what was found at the place reached, which is that of record t
+  pub reached : {at : ℕ} {next x : Next} → at ≡ place s t → next ≡ nextAt s at → next ≡ x → nextAt s (place s t) ≡ x
+  reached a n e = ap (nextAt s) (sym a) ∙ sym n ∙ e
+
   pub place-more : place s (t + 1) ≡ endFrom s (place s t)
   unfolding place
   place-more = rw add-one
@@ -110,6 +115,9 @@ module _ (s : List ℕ) (t : ℕ) where
         let w = next-known s (place s t) k a e n in
         let d : e - a ≡ sizeFrom s (place s t) = omega (arith, w .start, w .end) in
         rw (d, w .start)
+
+    pub length-next : e - a ≡ length (bodyAt s t)
+    length-next = let w = next-known s (place s t) k a e n in omega (arith, w .start, w .end, length-body (w .whole))
 
 -- ---- check 2
 -- whole records from a place on to the end of the file

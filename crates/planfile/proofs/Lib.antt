@@ -1,0 +1,11 @@
+-- The laws of plan files: Runs of the numbers in a body, Places of the records of a plan and of their lengths, Checks and Filling
+-- of the reader, Wrote and WriteAnswers of the writer, Written and Again both round trips, Examples the case L.
+pub mod Runs
+pub mod Places
+pub mod Checks
+pub mod Filling
+pub mod Wrote
+pub mod WriteAnswers
+pub mod Written
+pub mod Again
+pub mod Examples

@@ -1,0 +1,42 @@
+-- `planfile::put_shares_record` puts down the four bytes in front of a body, and the body.
+use native.Mathlib.Omega.{arith}
+use borrow.Author.Needs.{needs}
+use lib.ListN.{length-append}
+use Rattle.little_endian.proofs.LittleEndian.{length-bytesOf}
+use Rattle.planfile.proofs.Runs.{length-run}
+use Rattle.planfile.proofs.Wrote.{wrote-record}
+use Rattle.planfile.proofs.put_shares_record.Statement.{statement}
+use Rattle.planfile.proofs.put_shares_record.Tie as tie
+
+mul-put-front : tie.Need-mul-put-front
+mul-put-front c = search needs
+
+cast-put-front : tie.Need-cast-put-front
+cast-put-front c = search needs
+
+put-front-requires : tie.Need-put-front-requires
+put-front-requires c κs = search needs
+
+put-shares-requires : tie.Need-put-shares-requires
+put-shares-requires c κs =
+    let w = c .before .before .before .put-front .ensures in
+    (omega arith, omega (arith, simp (length-append, length-bytesOf) at (w .next)))
+
+same-length : tie.Need-same-length
+same-length c = search needs
+
+returns : tie.Need-returns
+returns c =
+    let body = c .before .before in
+    wrote-record _ _ (body .before .before .before .before .put-front .ensures) (body .put-shares .ensures) (length-run 4 _ _)
+
+pub put-shares-record-spec : {M : Type 1} → statement M
+put-shares-record-spec =
+    tie.close
+    (tie.spec
+    mul-put-front
+    cast-put-front
+    put-front-requires
+    put-shares-requires
+    same-length
+    returns)

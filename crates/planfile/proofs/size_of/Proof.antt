@@ -1,0 +1,75 @@
+-- `planfile::size_of` takes the size from the list of sizes by the kind, which counts from 1.
+use mathlib.Core.Path.{sym}
+use native.Mathlib.Omega.{arith}
+use borrow.Author.Needs.{needs}
+use Rattle.whole.specs.Entry.{nth}
+use Rattle.whole.proofs.Entry.{nth-outside}
+use Rattle.planfile.specs.Format.{sizeOf}
+use Rattle.planfile.proofs.size_of.Statement.{statement}
+use Rattle.planfile.proofs.size_of.Tie as tie
+
+mul-result : tie.Need-mul-result
+mul-result c = search needs
+
+mul-result-2 : tie.Need-mul-result-2
+mul-result-2 c = search needs
+
+mul-result-3 : tie.Need-mul-result-3
+mul-result-3 c = search needs
+
+sub-result : tie.Need-sub-result
+sub-result c = search needs
+
+mul-result-4 : tie.Need-mul-result-4
+mul-result-4 c = search needs
+
+mul-result-5 : tie.Need-mul-result-5
+mul-result-5 c = search needs
+
+returns : tie.Need-returns
+unfolding sizeOf nth
+returns c = rw (c .match .keys1)
+
+returns-2 : tie.Need-returns-2
+unfolding sizeOf nth
+returns-2 c = rw (c .before .match .keys2)
+
+returns-3 : tie.Need-returns-3
+unfolding sizeOf nth
+returns-3 c = rw (c .before .match .keys3)
+
+returns-4 : tie.Need-returns-4
+unfolding sizeOf nth
+returns-4 c = rw (c .before .match .keys4)
+
+returns-5 : tie.Need-returns-5
+unfolding sizeOf nth
+returns-5 c = rw (c .before .match .keys5)
+
+returns-6 : tie.Need-returns-6
+unfolding sizeOf nth
+returns-6 c = rw (c .before .match .keys6)
+
+returns-7 : tie.Need-returns-7
+unfolding sizeOf
+returns-7 c =
+    let r = c .match .rest in
+    sym (nth-outside 0 _ _ (λ l. omega (arith, r .0 .0 .0 .0 .0 .1, r .0 .0 .0 .0 .1, r .0 .0 .0 .1, r .0 .0 .1, r .0 .1, r .1)))
+
+pub size-of-spec : {M : Type 1} → statement M
+size-of-spec =
+    tie.close
+    (tie.spec
+    mul-result
+    mul-result-2
+    mul-result-3
+    sub-result
+    mul-result-4
+    mul-result-5
+    returns
+    returns-2
+    returns-3
+    returns-4
+    returns-5
+    returns-6
+    returns-7)
