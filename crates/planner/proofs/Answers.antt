@@ -16,6 +16,7 @@ use Rattle.plan.specs.declared.Plan.{Plan}
 use Rattle.plan.proofs.Numbers.{agree-same}
 use Rattle.plan.proofs.Checks.{check-true, first-some, first-none, first-next, answer-refused, answer-accepted, accepted}
 use Rattle.planner.specs.Calls.{callRefusal, fundAnswer, boundAnswer, formAnswer, gammasAnswer}
+use Rattle.planner.specs.Verdict.{verdictAnswer, judgementOf}
 
 -- ---- the refusal of a call on pattern t
 module _ (P : Numbers) (t : ℕ) where
@@ -91,3 +92,10 @@ module _ (x y : Plan) (h : Agree x y) (t : ℕ) where
 
   pub agree-gammas : gammasAnswer (numbers x) t ≡ gammasAnswer (numbers y) t
   agree-gammas = ap (λ (P : Numbers). gammasAnswer P t) (agree-same x y h)
+
+module _ (x y : Plan) (h : Agree x y) where
+  pub agree-verdict : verdictAnswer (numbers x) ≡ verdictAnswer (numbers y)
+  agree-verdict = ap verdictAnswer (agree-same x y h)
+
+  pub agree-judgement : judgementOf (numbers x) ≡ judgementOf (numbers y)
+  agree-judgement = ap judgementOf (agree-same x y h)

@@ -1,9 +1,16 @@
--- Demand 3: the fund and the form that a call answers lie below the exact fund of the plan, by less than their bounds.
-use mathlib.Core.Path.{_≡_, refl, sym, ap, subst}
+-- Demand 3: the fund and the form that a call answers lie below the exact fund of the plan, by less than their bounds, and the
+-- verdict's words are true of it.
+use mathlib.Core.Path.{_≡_, refl, sym, ap, _∙_, subst}
+use mathlib.Core.Bool.{Bool}
 use Prim.Native.Nat.{ℕ, _+_, _-_, _*_, _≤_, _<_, zero-le}
 use native.Mathlib.Nat.{le-trans, le-of-eq}
 use native.Mathlib.Omega.{arith}
+use borrow.Author.Tests.{eqb-true}
+use lib.Count.{trailingZeros}
+use lib.Dec.{eqb}
+use lib.ListN.{getD}
 use lib.IntN.{ℤ, pos, natAbs}
+use lib.Signed.{_≤ℤ_, _<ℤ_}
 use Rattle.whole.specs.Range.{million}
 use Rattle.whole.specs.Sum.{Σℕ, largest}
 use Rattle.whole.specs.Test.{both}
@@ -11,17 +18,19 @@ use Rattle.whole.proofs.Bridge.{whole}
 use Rattle.whole.proofs.Range.{within-abs}
 use Rattle.whole.proofs.Sum.{largest-upper, largest-least}
 use Rattle.whole.proofs.Test.{picked-is}
+use Rattle.whole.proofs.Table.{table-at}
 use Rattle.whole.proofs.Entry.{entry-each}
 use Rattle.reckoning.specs.Reckoning.{fund}
 use Rattle.reckoning.specs.Bound.{h, value}
 use Rattle.reckoning.specs.Theorem.{Given, FromBelow}
 use Rattle.reckoning.specs.declared.Reckoned.{Reckoned}
 use Rattle.reckoning.proofs.Pattern.{shares-le}
-use Rattle.reckoning.proofs.Theorem.{fund-from-below, form-from-below, flow-floors}
+use Rattle.reckoning.proofs.Theorem.{fund-from-below, form-from-below, flow-floors, solvent as exactly-solvent, short as exactly-short}
 use Rattle.plan.specs.Numbers.{Numbers, rateAt, numbers}
+use Rattle.plan.specs.Refusal.{refusalOf, Accepted}
 use Rattle.plan.specs.declared.Plan.{Plan}
 use Rattle.plan.proofs.Numbers.{pattern-is, rate-is}
-use Rattle.plan.proofs.Checks.{answer-accepted}
+use Rattle.plan.proofs.Checks.{first-none, answer-accepted, accepted}
 use Rattle.planner.specs.Calls.{
   noFund,
   noBound,
@@ -39,10 +48,27 @@ use Rattle.planner.specs.Calls.{
   formReckoned,
   formAnswer,
 }
-use Rattle.planner.specs.Demand3.{FundNear, FormNear}
+use Rattle.planner.specs.Verdict.{
+  solvent,
+  short,
+  bitsOf,
+  planWordOf,
+  noVerdict,
+  fundOf,
+  patternWord,
+  verdictRefusal,
+  shortBits,
+  planWord,
+  verdictAnswer,
+}
+use Rattle.planner.specs.Rows.{verdictOf}
+use Rattle.planner.specs.Demand3.{FundNear, FormNear, ShortPattern, VerdictTrue}
 use Rattle.planner.specs.declared.FormAnswer.{FormAnswer}
+use Rattle.planner.specs.declared.VerdictAnswer.{VerdictAnswer}
 use Rattle.planner.proofs.Held.{terms, rollover-held}
 use Rattle.planner.proofs.Answers.{Called, called, not-refused, reckoned-is}
+use Rattle.planner.proofs.Bits.{Lowest, bits-lowest}
+use Rattle.planner.proofs.VerdictLaws.{word-solvent, word-short, plan-solvent, plan-short}
 
 -- ---- every rate of a pattern is at most h; it has none outside i_2 to i_N
 rate-le : (plan : Plan) (t : ℕ) → t < plan .patterns → (l : ℕ) → natAbs (numbers plan .i (1 + t) l) ≤ h (numbers plan .i (1 + t)) (plan .years)
@@ -118,3 +144,71 @@ module _ (plan : Plan) (t : ℕ) where
 
   pub form-answered : {s : FormAnswer} → s ≡ formAnswer P t → (s ≡ formAnswer P t) × FormNear P t s
   form-answered e = (e, subst (FormNear P t) (sym e) form-near)
+
+-- ---- the verdict
+module _ (plan : Plan) where
+  abbrev m : ℕ
+  m = plan .patterns
+
+  -- the word of pattern 1 + t, and whether it is short
+  abbrev word : (t : ℕ) → ℕ
+  word t = patternWord (numbers plan) (1 + t)
+
+  abbrev isShort : (t : ℕ) → Bool
+  isShort t = eqb (word t) short
+
+  module _ (e : verdictAnswer (numbers plan) .refusal ≡ 0) where
+    verdict-called : verdictRefusal (numbers plan) ≡ 0
+    unfolding verdictAnswer
+    verdict-called = not-refused noVerdict (λ (s : VerdictAnswer). s .refusal) (λ n. refl) _ e
+
+    ok : Accepted (numbers plan)
+    unfolding verdictRefusal
+    ok = accepted plan (first-none (refusalOf (numbers plan)) _ verdict-called)
+
+    verdict-is : verdictAnswer (numbers plan) ≡ verdictOf m word
+    unfolding verdictAnswer shortBits planWord
+    verdict-is = answer-accepted noVerdict (verdictRefusal (numbers plan)) _ verdict-called
+
+    plan-word-is : verdictAnswer (numbers plan) .word ≡ planWordOf m word (bitsOf m isShort)
+    plan-word-is = ap (λ (s : VerdictAnswer). s .word) verdict-is
+
+    -- what its word says of one pattern
+    module _ (t : ℕ) (some : 1 ≤ t) (few : t ≤ m) where
+      word-is : word (t - 1) ≡ patternWord (numbers plan) t
+      word-is = let s : 1 + (t - 1) ≡ t = omega arith in ap (patternWord (numbers plan)) s
+
+      word-at : getD (verdictAnswer (numbers plan) .words) (t - 1) 0 ≡ patternWord (numbers plan) t
+      word-at =
+          ap (λ (s : VerdictAnswer). getD (s .words) (t - 1) 0) verdict-is
+          ∙ table-at 64 m word 0 0 (t - 1) (omega arith) (ok .head .patterns-few) ∙ word-is
+
+      solvent-fund : patternWord (numbers plan) t ≡ solvent → pos 0 ≤ℤ exactFund (numbers plan) t
+      unfolding patternWord fundOf
+      solvent-fund h = exactly-solvent (fund-below plan t (record { plan-ok = ok; some = some; few = few })) (word-solvent _ _ h)
+
+      short-fund : patternWord (numbers plan) t ≡ short → exactFund (numbers plan) t <ℤ pos 0
+      unfolding patternWord fundOf
+      short-fund h = exactly-short (fund-below plan t (record { plan-ok = ok; some = some; few = few })) (word-short _ _ h)
+
+      all-solvent : verdictAnswer (numbers plan) .word ≡ solvent → patternWord (numbers plan) t ≡ solvent
+      all-solvent h = sym word-is ∙ plan-solvent m word (bitsOf m isShort) (sym plan-word-is ∙ h) (t - 1) (omega arith)
+
+    -- the lowest bit that is set is that of a short pattern
+    some-short : verdictAnswer (numbers plan) .word ≡ short → ShortPattern (numbers plan)
+    some-short h =
+        let t = trailingZeros m (bitsOf m isShort) in
+        let lowest : Lowest m isShort t = bits-lowest m m isShort (omega arith) (plan-short m word (bitsOf m isShort) (sym plan-word-is ∙ h)) in
+        let few : 1 + t ≤ m = omega (arith, lowest .few) in
+        record { pattern = 1 + t; some = omega arith; few = few; below = short-fund (1 + t) (omega arith) few (eqb-true _ _ (lowest .holds)) }
+
+  verdict-true : VerdictTrue (numbers plan) (verdictAnswer (numbers plan))
+  verdict-true = record {
+    pattern-solvent = λ e t some few h. solvent-fund e t some few (sym (word-at e t some few) ∙ h);
+    pattern-short = λ e t some few h. short-fund e t some few (sym (word-at e t some few) ∙ h);
+    plan-solvent = λ e h t some few. solvent-fund e t some few (all-solvent e t some few h);
+    plan-short = some-short;
+  }
+
+  pub verdict-answered : {s : VerdictAnswer} → s ≡ verdictAnswer (numbers plan) → (s ≡ verdictAnswer (numbers plan)) × VerdictTrue (numbers plan) s
+  verdict-answered e = (e, subst (VerdictTrue (numbers plan)) (sym e) verdict-true)

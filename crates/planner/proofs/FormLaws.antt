@@ -40,11 +40,11 @@ module _ (P : Numbers) (i : ℕ → ℤ) where
     unfolding coefficientsOf formReckoned
     coefficients-refused h = rw (picked-no (λ (c : Coefficients). c .refusal) _ _ refl (λ z. omega arith) (coefficientsFit P i) c e h)
 
-    coefficients-fit : c .refusal ≡ 0 → coefficientsFit P i ≡ true
+    pub coefficients-fit : c .refusal ≡ 0 → coefficientsFit P i ≡ true
     unfolding coefficientsOf
     coefficients-fit = picked-yes (λ (c : Coefficients). c .refusal) _ _ refl (λ z. omega arith) (coefficientsFit P i) c e
 
-    coefficients-are : c .refusal ≡ 0 → c .values ≡ table 16 (P .instruments) Kⱼ (pos 0)
+    pub coefficients-are : c .refusal ≡ 0 → c .values ≡ table 16 (P .instruments) Kⱼ (pos 0)
     unfolding coefficientsOf
     coefficients-are h = ap (λ (c : Coefficients). c .values) (picked-is (λ (c : Coefficients). c .refusal) _ _ refl (λ z. omega arith) (coefficientsFit P i) c e h)
 

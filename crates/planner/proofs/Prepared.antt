@@ -18,7 +18,7 @@ use Rattle.planner.specs.Calls.{flowOf, coefficientsFit}
 use Rattle.planner.specs.Arrays.{rolloverArray, ratesArray, flowArray, commonOf, coefficientsOf}
 use Rattle.planner.specs.declared.Common.{Common}
 use Rattle.planner.specs.declared.Coefficients.{Coefficients}
-use Rattle.planner.proofs.Held.{rollover-held, rates-held, flow-held, outflow-held, payments-held, rates, outflow-amounts, payments-amounts, ready}
+use Rattle.planner.proofs.Held.{rollover-held, rates-held, flow-held, outflow-held, payments-held, rates, flow-amounts, outflow-amounts, payments-amounts, ready}
 use Rattle.planner.proofs.Answers.{Called}
 use Rattle.planner.proofs.FormLoops.{fundsOf}
 
@@ -63,17 +63,25 @@ module _ (plan : Plan) (ok : Accepted (numbers plan)) {common : Common} (e : com
   unfolding commonOf
   payments-in = rw e (payments-amounts plan ok)
 
+  pub flow-in : Amounts (common .flow)
+  unfolding commonOf
+  flow-in = rw e (flow-amounts plan ok)
+
   pub outflow-in : Amounts (common .outflow)
   unfolding commonOf
   outflow-in = rw e (outflow-amounts plan ok)
 
-  -- the funds of the instruments are the coefficients, that of -o the constant
+  -- the funds of the instruments are the coefficients, that of the flow the plan's fund, that of -o the constant
   pub coefficients-is : (i : ℕ → ℤ) → fundsOf (sharesOf (common .rollover)) i (λ j. amountsOf (paymentsIn common j)) (plan .years) (plan .instruments) ≡ coefficientsOf P i
   unfolding coefficientsOf coefficientsFit K
   coefficients-is i = rw common-rollover (ap₂
       (λ (b : Bool) (v : List ℤ). pick {A = Coefficients} b (record { refusal = 0; values = v }) (record { refusal = 11; values = replicate 16 (pos 0) }))
       (all-cong (plan .instruments) _ _ (λ j l. ap (λ (f : ℕ → ℤ). fundFits (P .r) i f (plan .years)) (common-payments j l)))
       (table-cong 16 (plan .instruments) _ _ (pos 0) (λ j l. ap (fund (P .r) i (plan .years)) (common-payments j l))))
+
+  pub flow-is : (i : ℕ → ℤ) → fundAnswer (sharesOf (common .rollover)) i (amountsOf (common .flow)) (plan .years) ≡ fundAnswer (P .r) i (flowOf P) (plan .years)
+  unfolding commonOf
+  flow-is i = rw (e, rollover-held plan ok, flow-held plan ok)
 
   pub constant-is : (i : ℕ → ℤ) → fundAnswer (sharesOf (common .rollover)) i (amountsOf (common .outflow)) (plan .years) ≡ fundAnswer (P .r) i (λ k. negℤ (P .o k)) (plan .years)
   unfolding commonOf

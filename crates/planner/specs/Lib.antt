@@ -1,5 +1,7 @@
--- Document 01's calls on a plan held as values. Calls has the answer of each, Arrays what the code prepares for the core, and
--- Demand3 what an accepted answer means.
+-- Document 01's calls on a plan held as values. Calls and Verdict have the answer of each, Demand3 what an accepted answer means.
+-- Arrays and Rows have what the code makes on the way: the arrays that the core takes, the rows of which a verdict is made.
 pub mod Calls
-pub mod Arrays
+pub mod Verdict
 pub mod Demand3
+pub mod Arrays
+pub mod Rows

@@ -5,17 +5,22 @@ use reckoning::Reckoned;
 use reckoning::Row;
 ghost use mathlib.Core.Path.{_≡_};
 ghost use Prim.Native.Nat.{_+_, _≤_, _<_};
+ghost use lib.Dec.{eqb};
 ghost use lib.ListN.{getD};
 ghost use lib.IntN.{pos, _*ℤ_};
+ghost use Rattle.whole.specs.Range.{limit, Between, Within};
 ghost use Rattle.whole.specs.Sum.{sum};
+ghost use Rattle.whole.specs.Test.{pick};
 ghost use Rattle.whole.specs.Table.{table};
 ghost use Rattle.reckoning.specs.Arrays.{ratesOf, Rates};
 ghost use Rattle.plan.specs.Numbers.{numbers};
 ghost use Rattle.plan.specs.Refusal.{Accepted};
 ghost use Rattle.reckoning.specs.Reckoning.{paid as paidOf};
 ghost use Rattle.planner.specs.Calls.{noForm, callRefusal, fundAnswer, boundAnswer, gammasAnswer, formReckoned, formAnswer};
+ghost use Rattle.planner.specs.Verdict.{short, wordOf, bitsOf, noPattern, rowReckoned, planWordOf, verdictAnswer, judgementOf};
 ghost use Rattle.planner.specs.Arrays.{rolloverArray, ratesArray, flowArray, outflowArray, paymentsRows, commonOf, coefficientsOf, Weighable};
-ghost use Rattle.planner.specs.Demand3.{FundNear, FormNear};
+ghost use Rattle.planner.specs.Rows.{refusedRow, noJudgement, rowsReckoned, rowIn, verdictOf};
+ghost use Rattle.planner.specs.Demand3.{FundNear, FormNear, VerdictTrue};
 
 pub struct BoundAnswer {
     pub refusal: u8,
@@ -365,4 +370,258 @@ pub fn gammas(plan: Plan, t: usize) -> GammaTable
     let r = rollover_of(plan);
     let w = reckoning::weights(r, q);
     reckoning::gammas(r, w, rates_of(plan, t), years, q)
+}
+
+// ---- the verdict
+
+// What one pattern comes to: its word, its fund and bound, K_1 to K_n and Q.
+pub struct PatternRow {
+    pub word: u8,
+    pub fund: i64,
+    pub bound: i64,
+    pub coefficients: [i64; 16],
+    pub constant: i64,
+}
+
+pub struct OneRow {
+    pub refusal: u8,
+    pub row: PatternRow,
+}
+
+pub struct PatternRows {
+    pub refusal: u8,
+    pub rows: [PatternRow; 64],
+}
+
+// The word of every pattern; the short ones as bits, bit t - 1 for pattern t; the plan's word.
+pub struct VerdictAnswer {
+    pub refusal: u8,
+    pub words: [u8; 64],
+    pub short: u64,
+    pub word: u8,
+}
+
+// A verdict, and the rows that it was made of.
+pub struct Judgement {
+    pub verdict: VerdictAnswer,
+    pub rows: [PatternRow; 64],
+}
+
+// The word of a fund z with the bound b.
+fn word_of(z: i64, b: i64) -> u8
+    requires { ⌜ Within limit z ⌝ }
+    requires { ⌜ Between (pos 0) (pos 4_294_967_296) b ⌝ }
+    ensures { λ w. ⌜ w ≡ wordOf z b ⌝ }
+{
+    if z >= 0 {
+        return 1;
+    }
+    if z + b <= 0 {
+        return 2;
+    }
+    3
+}
+
+fn no_pattern() -> PatternRow
+    ensures { λ s. ⌜ s ≡ noPattern ⌝ }
+{
+    PatternRow {
+        word: 0,
+        fund: 0,
+        bound: 0,
+        coefficients: [0i64; 16],
+        constant: 0,
+    }
+}
+
+fn refused_row() -> OneRow
+    ensures { λ s. ⌜ s ≡ refusedRow ⌝ }
+{
+    let none = no_pattern();
+    OneRow {
+        refusal: 11,
+        row: none,
+    }
+}
+
+// What pattern t comes to: each of its flows is reckoned once.
+fn row_at(plan: Plan, common: Common, t: usize) -> OneRow
+    requires { ⌜ Accepted (numbers plan) ⌝ }
+    requires { ⌜ common ≡ commonOf (numbers plan) ⌝ }
+    requires { ⌜ 1 ≤ t ⌝ }
+    requires { ⌜ t ≤ plan .patterns ⌝ }
+    ensures { λ s. ⌜ s ≡ rowReckoned (numbers plan) t ⌝ }
+{
+    let years = plan.years;
+    let q = plan.terms;
+    let x = common.flow;
+    let r = common.rollover;
+    let w = common.weights;
+    let pattern = rates_of(plan, t);
+    let c = reckoning::fund(x, r, w, pattern, years, q);
+    let no = c.refusal;
+    if no != 0 {
+        return refused_row();
+    }
+    let f = form_at(plan, common, pattern);
+    let also = f.refusal;
+    if also != 0 {
+        return refused_row();
+    }
+    let z = c.fund;
+    let b = reckoning::bound(pattern, years);
+    let word = word_of(z, b);
+    let k = f.coefficients;
+    let constant = f.constant;
+    let row = PatternRow {
+        word: word,
+        fund: z,
+        bound: b,
+        coefficients: k,
+        constant: constant,
+    };
+    OneRow {
+        refusal: 0,
+        row: row,
+    }
+}
+
+// Every pattern in turn, until check 11 refuses one.
+fn rows_of(plan: Plan, common: Common) -> PatternRows
+    requires { ⌜ Accepted (numbers plan) ⌝ }
+    requires { ⌜ common ≡ commonOf (numbers plan) ⌝ }
+    ensures { λ s. ⌜ s ≡ rowsReckoned (numbers plan) ⌝ }
+{
+    let m = plan.patterns;
+    let none = no_pattern();
+    let mut rows = [none; 64];
+    for t in 0..m {
+        let c = row_at(plan, common, t + 1);
+        let refusal = c.refusal;
+        if refusal != 0 {
+            return PatternRows {
+                refusal: 11,
+                rows: [none; 64],
+            };
+        }
+        let row = c.row;
+        rows[t] = row;
+    }
+    PatternRows {
+        refusal: 0,
+        rows: rows,
+    }
+}
+
+// The words of the first m rows.
+fn words_of(rows: [PatternRow; 64], m: usize) -> [u8; 64]
+    requires { ⌜ m ≤ 64 ⌝ }
+    ensures { λ s. ⌜ s ≡ table 64 m (λ t. rowIn rows t .word) 0 ⌝ }
+{
+    let mut words = [0u8; 64];
+    for t in 0..m {
+        let row = rows[t];
+        words[t] = row.word;
+    }
+    words
+}
+
+fn short_bit(word: u8) -> u64
+    ensures { λ s. ⌜ s ≡ pick (eqb word short) 1 0 ⌝ }
+{
+    if word == 2 { 1 } else { 0 }
+}
+
+// The short ones of m words as bits, from the last word down.
+fn short_bits(words: [u8; 64], m: usize) -> u64
+    requires { ⌜ m ≤ 64 ⌝ }
+    ensures { λ s. ⌜ s ≡ bitsOf m (λ t. eqb (getD words t 0) short) ⌝ }
+{
+    let mut bits: u64 = 0;
+    let mut t = m;
+    while 0 < t {
+        t -= 1;
+        bits = short_bit(words[t]) + 2 * bits;
+    }
+    bits
+}
+
+// The plan's word, of its patterns' words and the short ones as bits.
+fn plan_word(words: [u8; 64], m: usize, bits: u64) -> u8
+    requires { ⌜ m ≤ 64 ⌝ }
+    ensures { λ s. ⌜ s ≡ planWordOf m (λ t. getD words t 0) bits ⌝ }
+{
+    if bits != 0 {
+        return 2;
+    }
+    for t in 0..m {
+        if words[t] != 1 {
+            return 3;
+        }
+    }
+    1
+}
+
+// The verdict that m rows make.
+fn verdict_of(rows: [PatternRow; 64], m: usize) -> VerdictAnswer
+    requires { ⌜ m ≤ 64 ⌝ }
+    ensures { λ s. ⌜ s ≡ verdictOf m (λ t. rowIn rows t .word) ⌝ }
+{
+    let words = words_of(rows, m);
+    let short = short_bits(words, m);
+    let word = plan_word(words, m, short);
+    VerdictAnswer {
+        refusal: 0,
+        words: words,
+        short: short,
+        word: word,
+    }
+}
+
+fn no_judgement(refusal: u8) -> Judgement
+    ensures { λ s. ⌜ s ≡ noJudgement refusal ⌝ }
+{
+    let none = no_pattern();
+    let verdict = VerdictAnswer {
+        refusal: refusal,
+        words: [0u8; 64],
+        short: 0,
+        word: 0,
+    };
+    Judgement {
+        verdict: verdict,
+        rows: [none; 64],
+    }
+}
+
+// The verdict on a plan, with what each of its patterns comes to.
+pub fn judge(plan: Plan) -> Judgement
+    ensures { λ s. ⌜ s ≡ judgementOf (numbers plan) ⌝ }
+{
+    let no = plan::refusal(plan);
+    if no != 0 {
+        return no_judgement(no);
+    }
+    let common = common_of(plan);
+    let c = rows_of(plan, common);
+    let also = c.refusal;
+    if also != 0 {
+        return no_judgement(11);
+    }
+    let m = plan.patterns;
+    let rows = c.rows;
+    let verdict = verdict_of(rows, m);
+    Judgement {
+        verdict: verdict,
+        rows: rows,
+    }
+}
+
+// The verdict on a plan.
+pub fn verdict(plan: Plan) -> VerdictAnswer
+    ensures is { λ s. ⌜ s ≡ verdictAnswer (numbers plan) ⌝ }
+    ensures near { λ s. ⌜ VerdictTrue (numbers plan) s ⌝ }
+{
+    let j = judge(plan);
+    j.verdict
 }

@@ -87,6 +87,12 @@ pub sumℕ-suc : (n : ℕ) (g : ℕ → ℕ) → sumℕ (suc n) g ≡ sumℕ n g
 unfolding sumℕ
 sumℕ-suc n g = refl
 
+-- the first value, and the sum of the others
+pub sumℕ-first : (n : ℕ) (g : ℕ → ℕ) → sumℕ (suc n) g ≡ g 0 + sumℕ n (λ k. g (suc k))
+unfolding sumℕ
+sumℕ-first zero g = omega arith
+sumℕ-first (suc n) g = omega (arith, sumℕ-first n g)
+
 -- one more turn of a loop: s is the sum so far, v what the turn adds
 pub sumℕ-turn : (g : ℕ → ℕ) (n : ℕ) {s v : ℕ} → s ≡ sumℕ n g → v ≡ g n → s + v ≡ sumℕ (n + 1) g
 unfolding sumℕ

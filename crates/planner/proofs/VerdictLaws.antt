@@ -1,0 +1,139 @@
+-- The verdict: what its refusal is, the ways out of judging a plan, and what its words say.
+use mathlib.Core.Path.{_≡_, refl, sym, ap, ap₂, _∙_}
+use mathlib.Core.Bool.{Bool, true, false}
+use mathlib.Core.List.{List}
+use Prim.Native.Nat.{ℕ, _+_, _≤_, _<_}
+use native.Mathlib.Omega.{arith}
+use borrow.Author.Tests.{eqb-true, eqb-false}
+use lib.Dec.{eqb}
+use lib.ListN.{getD, replicate}
+use lib.IntN.{ℤ, pos, _+ℤ_}
+use lib.Signed.{leZ, _≤ℤ_}
+use Rattle.whole.specs.Test.{pick, all}
+use Rattle.whole.specs.Table.{table}
+use Rattle.whole.proofs.Test.{picked-yes, picked-no, picked-is, all-at, all-cong, le-true}
+use Rattle.whole.proofs.Table.{table-at, table-cong}
+use Rattle.plan.specs.Numbers.{Numbers}
+use Rattle.plan.specs.Refusal.{refusalOf}
+use Rattle.plan.proofs.Checks.{first-some}
+use Rattle.planner.specs.Verdict.{
+  solvent,
+  short,
+  close,
+  wordOf,
+  bitsOf,
+  planWordOf,
+  noVerdict,
+  noPattern,
+  rowFits,
+  patternWord,
+  rowOf,
+  verdictRefusal,
+  shortBits,
+  planWord,
+  verdictAnswer,
+  rowsOf,
+  judgementOf,
+}
+use Rattle.planner.specs.Rows.{noJudgement, rowsReckoned, rowIn, verdictOf}
+use Rattle.planner.specs.declared.PatternRow.{PatternRow}
+use Rattle.planner.specs.declared.PatternRows.{PatternRows}
+use Rattle.planner.specs.declared.VerdictAnswer.{VerdictAnswer}
+use Rattle.planner.specs.declared.Judgement.{Judgement}
+use Rattle.planner.proofs.Answers.{out-refused, out-accepted}
+use Rattle.planner.proofs.Bits.{bits-cong}
+
+-- ---- the verdict that m words make
+module _ {m : ℕ} {v w : ℕ → ℕ} (same : (t : ℕ) → t < m → v t ≡ w t) where
+  shorts-same : bitsOf m (λ t. eqb (v t) short) ≡ bitsOf m (λ t. eqb (w t) short)
+  shorts-same = bits-cong m _ _ (λ t l. ap (λ (x : ℕ). eqb x short) (same t l))
+
+  solvents-same : all m (λ t. eqb (v t) solvent) ≡ all m (λ t. eqb (w t) solvent)
+  solvents-same = all-cong m _ _ (λ t l. ap (λ (x : ℕ). eqb x solvent) (same t l))
+
+  verdict-same : verdictOf m v ≡ verdictOf m w
+  verdict-same = rw (table-cong 64 m v w 0 same, shorts-same, solvents-same)
+
+-- made of the array of the words
+pub verdict-made : (m : ℕ) (word : ℕ → ℕ) → m ≤ 64 → {words : List ℕ} {bits x : ℕ} → words ≡ table 64 m word 0 →
+    bits ≡ bitsOf m (λ t. eqb (getD words t 0) short) → x ≡ planWordOf m (λ t. getD words t 0) bits →
+    record { refusal = 0; words = words; short = bits; word = x } ≡ verdictOf m word
+verdict-made m word few {words} e f g =
+    let same : (t : ℕ) → t < m → getD words t 0 ≡ word t = λ t l. ap (λ (words : List ℕ). getD words t 0) e ∙ table-at 64 m word 0 0 t l few in
+    rw (g, f, shorts-same same, solvents-same same, e)
+
+abbrev judgement : VerdictAnswer → List PatternRow → Judgement
+judgement v rows = record { verdict = v; rows = rows }
+
+module _ (P : Numbers) where
+  -- ---- the refusal
+  pub plan-refuses : {number : ℕ} → number ≡ refusalOf P → (number ≡ 0 → ⊥) → number ≡ verdictRefusal P
+  unfolding verdictRefusal
+  plan-refuses e h = e ∙ sym (first-some (refusalOf P) _ (λ z. h (e ∙ z)))
+
+  module _ (accepted : refusalOf P ≡ 0) {c : PatternRows} (e : c ≡ rowsReckoned P) where
+    pub pattern-refuses : (c .refusal ≡ 0 → ⊥) → 11 ≡ verdictRefusal P
+    unfolding verdictRefusal rowsReckoned
+    pattern-refuses h = rw (accepted, picked-no (λ (c : PatternRows). c .refusal) _ _ refl (λ z. omega arith) (all (P .patterns) (λ t. rowFits P (1 + t))) c e h)
+
+    pub none-refuses : c .refusal ≡ 0 → verdictRefusal P ≡ 0
+    unfolding verdictRefusal rowsReckoned
+    none-refuses h = rw (accepted, picked-yes (λ (c : PatternRows). c .refusal) _ _ refl (λ z. omega arith) (all (P .patterns) (λ t. rowFits P (1 + t))) c e h)
+
+  pub rows-are : {c : PatternRows} → c ≡ rowsReckoned P → c .refusal ≡ 0 → c .rows ≡ table 64 (P .patterns) (λ t. rowOf P (1 + t)) noPattern
+  unfolding rowsReckoned
+  rows-are {c} e h = ap (λ (c : PatternRows). c .rows) (picked-is (λ (c : PatternRows). c .refusal) _ _ refl (λ z. omega arith) (all (P .patterns) (λ t. rowFits P (1 + t))) c e h)
+
+  -- ---- the ways out
+  pub judge-refused : {number : ℕ} → number ≡ verdictRefusal P → (number ≡ 0 → ⊥) → noJudgement number ≡ judgementOf P
+  unfolding judgementOf verdictAnswer rowsOf
+  judge-refused e h = ap₂ judgement (out-refused noVerdict _ e h) (out-refused (λ n. replicate 64 noPattern) _ e h)
+
+  module _ (few : P .patterns ≤ 64) {v : VerdictAnswer} {rows : List PatternRow}
+      (e : rows ≡ table 64 (P .patterns) (λ t. rowOf P (1 + t)) noPattern) (f : v ≡ verdictOf (P .patterns) (λ t. rowIn rows t .word)) where
+    -- the words in the rows are the patterns' words
+    word-in : (t : ℕ) → t < P .patterns → rowIn rows t .word ≡ patternWord P (1 + t)
+    unfolding rowOf
+    word-in t l = rw e (ap (λ (row : PatternRow). row .word) (table-at 64 (P .patterns) (λ t. rowOf P (1 + t)) noPattern _ t l few))
+
+    pub judged : verdictRefusal P ≡ 0 → record { verdict = v; rows = rows } ≡ judgementOf P
+    unfolding judgementOf verdictAnswer rowsOf shortBits planWord
+    judged none = ap₂ judgement (out-accepted noVerdict none (f ∙ verdict-same word-in)) (out-accepted (λ n. replicate 64 noPattern) none e)
+
+-- ---- what a pattern's word says of its fund z and bound b
+module _ (z b : ℤ) where
+  pub word-solvent : wordOf z b ≡ solvent → pos 0 ≤ℤ z
+  unfolding wordOf
+  word-solvent = go (leZ (pos 0) z) (leZ (z +ℤ b) (pos 0)) refl
+    where
+      go : (y s : Bool) → leZ (pos 0) z ≡ y → pick y solvent (pick s short close) ≡ solvent → pos 0 ≤ℤ z
+      go true s e h = le-true (pos 0) z e
+      go false true e h = absurd (omega arith)
+      go false false e h = absurd (omega arith)
+
+  pub word-short : wordOf z b ≡ short → (z +ℤ b) ≤ℤ pos 0
+  unfolding wordOf
+  word-short = go (leZ (pos 0) z) (leZ (z +ℤ b) (pos 0)) refl
+    where
+      go : (y s : Bool) → leZ (z +ℤ b) (pos 0) ≡ s → pick y solvent (pick s short close) ≡ short → (z +ℤ b) ≤ℤ pos 0
+      go true s e h = absurd (omega arith)
+      go false true e h = le-true (z +ℤ b) (pos 0) e
+      go false false e h = absurd (omega arith)
+
+-- ---- what the plan's word says of m words
+module _ (m : ℕ) (word : ℕ → ℕ) (bits : ℕ) where
+  pub plan-solvent : planWordOf m word bits ≡ solvent → (t : ℕ) → t < m → word t ≡ solvent
+  plan-solvent h t l = eqb-true (word t) solvent (all-at m (λ t. eqb (word t) solvent) t l (go (eqb bits 0) (all m (λ t. eqb (word t) solvent)) h))
+    where
+      go : (y s : Bool) → pick y (pick s solvent close) short ≡ solvent → s ≡ true
+      go true true e = refl
+      go true false e = absurd (omega arith)
+      go false s e = absurd (omega arith)
+
+  pub plan-short : planWordOf m word bits ≡ short → bits ≡ 0 → ⊥
+  plan-short h = eqb-false bits 0 (go (eqb bits 0) (all m (λ t. eqb (word t) solvent)) h)
+    where
+      go : (y s : Bool) → pick y (pick s solvent close) short ≡ short → y ≡ false
+      go true true e = absurd (omega arith)
+      go true false e = absurd (omega arith)
+      go false s e = refl

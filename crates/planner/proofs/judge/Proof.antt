@@ -1,0 +1,65 @@
+-- `planner::judge` is refused with the plan or with a pattern, and else has every row and the verdict that they make.
+use mathlib.Core.Path.{_≡_, sym, _∙_}
+use native.Mathlib.Omega.{arith}
+use borrow.Author.Needs.{needs}
+use Rattle.plan.specs.Numbers.{numbers}
+use Rattle.plan.specs.Refusal.{refusalOf, Accepted}
+use Rattle.plan.proofs.Checks.{accepted}
+use Rattle.planner.proofs.VerdictLaws.{plan-refuses, pattern-refuses, none-refuses, rows-are, judge-refused, judged}
+use Rattle.planner.proofs.judge.Statement.{statement}
+use Rattle.planner.proofs.judge.Tie as tie
+
+refusal-requires : tie.Need-refusal-requires
+refusal-requires c κs = search needs
+
+no-judgement-requires : tie.Need-no-judgement-requires
+no-judgement-requires c κs = search needs
+
+returns : tie.Need-returns
+returns c = let taken = c .before .if1 .taken in c .no-judgement .ensures ∙ judge-refused _ (plan-refuses _ (c .before .before .refusal .ensures) taken) taken
+
+-- the plan is not refused
+module _ (c : tie.Else1) where
+  none : refusalOf (numbers (c .before .before .args .plan)) ≡ 0
+  none = sym (c .before .refusal .ensures) ∙ c .if1 .left
+
+  ok : Accepted (numbers (c .before .before .args .plan))
+  ok = accepted _ none
+
+common-of-requires : tie.Need-common-of-requires
+common-of-requires c κs = ok c
+
+rows-of-requires : tie.Need-rows-of-requires
+rows-of-requires c κs = (ok (c .before), c .common-of .ensures)
+
+no-judgement-requires-2 : tie.Need-no-judgement-requires-2
+no-judgement-requires-2 c κs = search needs
+
+returns-2 : tie.Need-returns-2
+returns-2 c =
+    let r = c .before .before in
+    c .no-judgement2 .ensures ∙ judge-refused _ (pattern-refuses _ (none (r .before .before)) (r .rows-of .ensures) (c .before .if2 .taken)) (λ z. omega arith)
+
+verdict-of-requires : tie.Need-verdict-of-requires
+verdict-of-requires c κs = ok (c .before .before .before .before) .head .patterns-few
+
+returns-3 : tie.Need-returns-3
+returns-3 c =
+    let r = c .before .before .before in
+    let e = r .before .before in
+    let left = c .before .before .if2 .left in
+    judged _ (ok e .head .patterns-few) (rows-are _ (r .rows-of .ensures) left) (c .verdict-of .ensures) (none-refuses _ (none e) (r .rows-of .ensures) left)
+
+pub judge-spec : {M : Type 1} → statement M
+judge-spec =
+    tie.close
+    (tie.spec
+    refusal-requires
+    no-judgement-requires
+    returns
+    common-of-requires
+    rows-of-requires
+    no-judgement-requires-2
+    returns-2
+    verdict-of-requires
+    returns-3)

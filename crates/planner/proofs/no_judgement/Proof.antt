@@ -1,0 +1,13 @@
+-- `planner::no_judgement` holds a refusal's number, and zeros.
+use borrow.Author.Needs.{needs}
+use Rattle.planner.proofs.no_judgement.Statement.{statement}
+use Rattle.planner.proofs.no_judgement.Tie as tie
+
+no-pattern-requires : tie.Need-no-pattern-requires
+no-pattern-requires c κs = search needs
+
+returns : tie.Need-returns
+returns c = rw (c .no-pattern .ensures)
+
+pub no-judgement-spec : {M : Type 1} → statement M
+no-judgement-spec = tie.close (tie.spec no-pattern-requires returns)

@@ -1,0 +1,41 @@
+-- What the code makes of a plan on the way to its verdict: a row for each pattern, and of the rows' words the verdict.
+use mathlib.Core.List.{List, []}
+use Prim.Native.Nat.{ℕ, _+_}
+use lib.Dec.{eqb}
+use lib.ListN.{getD, replicate}
+use lib.IntN.{pos}
+use Rattle.whole.specs.Test.{pick, all}
+use Rattle.whole.specs.Table.{table}
+use Rattle.plan.specs.Numbers.{Numbers}
+use Rattle.planner.specs.declared.PatternRow.{PatternRow}
+use Rattle.planner.specs.declared.PatternRows.{PatternRows}
+use Rattle.planner.specs.declared.OneRow.{OneRow}
+use Rattle.planner.specs.declared.VerdictAnswer.{VerdictAnswer}
+use Rattle.planner.specs.declared.Judgement.{Judgement}
+use Rattle.planner.specs.Verdict.{short, bitsOf, planWordOf, noVerdict, noPattern, rowFits, rowOf}
+
+-- what a refusal holds
+abbrev pub refusedRow : OneRow
+refusedRow = record { refusal = 11; row = noPattern }
+
+abbrev pub noJudgement : ℕ → Judgement
+noJudgement number = record { verdict = noVerdict number; rows = replicate 64 noPattern }
+
+-- the row of every pattern, unless check 11 refuses one
+unfoldable pub rowsReckoned : Numbers → PatternRows
+rowsReckoned P = pick (all (P .patterns) (λ t. rowFits P (1 + t)))
+    (record { refusal = 0; rows = table 64 (P .patterns) (λ t. rowOf P (1 + t)) noPattern })
+    (record { refusal = 11; rows = replicate 64 noPattern })
+
+-- the row at a place, counted from 0
+abbrev pub rowIn : List PatternRow → (t : ℕ) → PatternRow
+rowIn rows t = getD rows t (record { word = 0; fund = pos 0; bound = pos 0; coefficients = []; constant = pos 0 })
+
+-- the verdict that m words make
+abbrev pub verdictOf : (m : ℕ) (word : ℕ → ℕ) → VerdictAnswer
+verdictOf m word = record {
+  refusal = 0;
+  words = table 64 m word 0;
+  short = bitsOf m (λ t. eqb (word t) short);
+  word = planWordOf m word (bitsOf m (λ t. eqb (word t) short));
+}

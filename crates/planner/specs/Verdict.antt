@@ -1,0 +1,98 @@
+-- Document 01, "Bound, form, verdict": the words, over a plan's numbers P.
+use mathlib.Core.Bool.{Bool}
+use mathlib.Core.List.{List}
+use Prim.Native.Nat.{ℕ, zero, suc, _+_, _*_}
+use lib.Dec.{eqb}
+use lib.ListN.{replicate}
+use lib.IntN.{ℤ, pos, _+ℤ_}
+use lib.Signed.{leZ}
+use Rattle.whole.specs.Test.{pick, both, all}
+use Rattle.whole.specs.Table.{table}
+use Rattle.reckoning.specs.Reckoning.{fund}
+use Rattle.reckoning.specs.Bound.{K, Q}
+use Rattle.reckoning.specs.Arrays.{fundFits}
+use Rattle.plan.specs.Numbers.{Numbers}
+use Rattle.plan.specs.Refusal.{answer, firstOf, check, refusalOf}
+use Rattle.planner.specs.declared.PatternRow.{PatternRow}
+use Rattle.planner.specs.declared.Judgement.{Judgement}
+use Rattle.planner.specs.declared.OneRow.{OneRow}
+use Rattle.planner.specs.declared.VerdictAnswer.{VerdictAnswer}
+use Rattle.planner.specs.Calls.{flowOf, boundOf, coefficientsFit, constantFits}
+
+-- words are numbers from 1, in this order
+abbrev pub solvent : ℕ
+solvent = 1
+
+abbrev pub short : ℕ
+short = 2
+
+abbrev pub close : ℕ
+close = 3
+
+-- the word of a pattern whose fund is z, with the bound b
+unfoldable pub wordOf : (z b : ℤ) → ℕ
+wordOf z b = pick (leZ (pos 0) z) solvent (pick (leZ (z +ℤ b) (pos 0)) short close)
+
+-- one word of bits: the lowest is that of p 0, and n are looked at
+unfoldable pub bitsOf : (n : ℕ) → (p : ℕ → Bool) → ℕ
+bitsOf zero p = 0
+bitsOf (suc n) p = pick (p 0) 1 0 + 2 * bitsOf n (λ t. p (suc t))
+
+-- the word of a plan with m patterns, from their words and the short ones as bits: short if any bit is set, solvent if every
+-- pattern is, else close
+abbrev pub planWordOf : (m : ℕ) (word : ℕ → ℕ) (bits : ℕ) → ℕ
+planWordOf m word bits = pick (eqb bits 0) (pick (all m (λ t. eqb (word t) solvent)) solvent close) short
+
+-- what a refusal holds
+abbrev pub noVerdict : ℕ → VerdictAnswer
+noVerdict number = record { refusal = number; words = replicate 64 0; short = 0; word = 0 }
+
+abbrev pub noPattern : PatternRow
+noPattern = record { word = 0; fund = pos 0; bound = pos 0; coefficients = replicate 16 (pos 0); constant = pos 0 }
+
+module _ (P : Numbers) where
+  -- check 11 for all that pattern t reckons: the allocation's flow, every instrument and -o
+  unfoldable pub rowFits : (t : ℕ) → Bool
+  rowFits t = both (fundFits (P .r) (P .i t) (flowOf P) (P .years)) (both (coefficientsFit P (P .i t)) (constantFits P (P .i t)))
+
+  -- what pattern t comes to: fund, B, K_1 to K_n, Q and word
+  unfoldable pub fundOf : (t : ℕ) → ℤ
+  fundOf t = fund (P .r) (P .i t) (P .years) (flowOf P)
+
+  unfoldable pub patternWord : (t : ℕ) → ℕ
+  patternWord t = wordOf (fundOf t) (pos (boundOf P t))
+
+  unfoldable pub rowOf : (t : ℕ) → PatternRow
+  rowOf t = record {
+    word = patternWord t;
+    fund = fundOf t;
+    bound = pos (boundOf P t);
+    coefficients = table 16 (P .instruments) (λ j. K (P .a) (P .o) (P .r) (P .i t) (P .years) (1 + j)) (pos 0);
+    constant = Q (P .a) (P .o) (P .r) (P .i t) (P .years);
+  }
+
+  -- the verdict's checks: 3 and 6 to 9, then 11 in every pattern
+  unfoldable pub verdictRefusal : ℕ
+  verdictRefusal = firstOf (refusalOf P) (check (all (P .patterns) (λ t. rowFits (1 + t))) 11 0)
+
+  -- bit t - 1 is set if pattern t is short
+  unfoldable pub shortBits : ℕ
+  shortBits = bitsOf (P .patterns) (λ t. eqb (patternWord (1 + t)) short)
+
+  unfoldable pub planWord : ℕ
+  planWord = planWordOf (P .patterns) (λ t. patternWord (1 + t)) shortBits
+
+  unfoldable pub verdictAnswer : VerdictAnswer
+  verdictAnswer = answer noVerdict verdictRefusal
+      (record { refusal = 0; words = table 64 (P .patterns) (λ t. patternWord (1 + t)) 0; short = shortBits; word = planWord })
+
+  -- every pattern's row, beside the verdict
+  unfoldable pub rowsOf : List PatternRow
+  rowsOf = answer (λ n. replicate 64 noPattern) verdictRefusal (table 64 (P .patterns) (λ t. rowOf (1 + t)) noPattern)
+
+  unfoldable pub judgementOf : Judgement
+  judgementOf = record { verdict = verdictAnswer; rows = rowsOf }
+
+  -- one pattern's row, unless check 11 refuses something in it
+  unfoldable pub rowReckoned : (t : ℕ) → OneRow
+  rowReckoned t = pick (rowFits t) (record { refusal = 0; row = rowOf t }) (record { refusal = 11; row = noPattern })
