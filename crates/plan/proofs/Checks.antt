@@ -99,6 +99,12 @@ pub answer-accepted : {A : Type 0} (refused : ℕ → A) (number : ℕ) (accepte
 answer-accepted refused zero accepted e = refl
 answer-accepted refused (suc n) accepted e = absurd (omega arith)
 
+-- an answer that has no number of a refusal was not refused
+pub not-refused : {A : Type 0} (refused : ℕ → A) (number : ℕ) (refusal : A → ℕ) → ((n : ℕ) → refusal (refused n) ≡ n) → (accepted : A)
+    → refusal (answer refused number accepted) ≡ 0 → number ≡ 0
+not-refused refused zero refusal same accepted e = refl
+not-refused refused (suc n) refusal same accepted e = sym (same (suc n)) ∙ e
+
 pub head-is : (P : Numbers) → headOk P ≡ true → Head P
 unfolding headOk
 head-is P e =

@@ -2,8 +2,6 @@
 use mathlib.Core.Path.{_≡_, refl}
 use mathlib.Core.List.{List, [], _∷_, map}
 use Prim.Native.Nat.{ℕ}
-use lib.ListN.{replicate}
-use lib.IntN.{pos}
 use Rattle.whole.specs.Entry.{nth, cut, entry}
 use Rattle.whole.specs.Sum.{sumℕ}
 use Rattle.whole.specs.Table.{table}
@@ -14,11 +12,9 @@ use Rattle.records.specs.Record.{recordBytes, fileBytes}
 use Rattle.records.specs.Cursor.{wholeAt, wholeFrom, wholeFile, place, kindAt, bodyAt}
 use Rattle.plan.specs.Numbers.{paymentsOf, outflowsOf, rolloverOf, ratesOf, allocationOf}
 use Rattle.plan.specs.Refusal.{headOk, paymentsFit, paymentsOk, outflowsOk, rolloverOk, ratesFit, ratesOk, allocationOk, refusalOf}
-use Rattle.plan.specs.declared.Plan.{Plan}
+use Rattle.plan.specs.Case.{nearL, planL}
 use Rattle.planfile.specs.Format.{kindsOf, sizeOf, run, numberAt, recordsOf}
 use Rattle.planfile.specs.Read.{
-  noInstrument,
-  noPattern,
   headAt,
   firstOk,
   kindOk,
@@ -32,27 +28,7 @@ use Rattle.planfile.specs.Read.{
 }
 use Rattle.planfile.specs.Write.{fileOf}
 
--- L, but for the share that is rolled over in the first term and the rate of the first pattern
-unfoldable pub nearL : (share rate : ℕ) → Plan
-nearL share rate = record {
-  years = 2;
-  instruments = 2;
-  terms = 1;
-  patterns = 2;
-  instrument =
-      record { payments = pos 1_080_000_000 ∷ replicate 29 (pos 0) }
-      ∷ record { payments = pos 80_000_000 ∷ pos 1_080_000_000 ∷ replicate 28 (pos 0) }
-      ∷ replicate 14 noInstrument;
-  outflows = pos 0 ∷ pos 1_160_000_000 ∷ replicate 28 (pos 0);
-  rollover = share ∷ replicate 29 0;
-  pattern = record { rates = rate ∷ replicate 29 0 } ∷ record { rates = 90_000 ∷ replicate 29 0 } ∷ replicate 62 noPattern;
-  allocation = 500_000 ∷ 500_000 ∷ replicate 14 0;
-}
-
-unfoldable pub planL : Plan
-planL = nearL 1_000_000 60_000
-
--- its 104 bytes, a line for a record
+-- L's 104 bytes, a line for a record
 unfoldable pub fileL : List ℕ
 fileL =
     4 ∷ 0 ∷ 1 ∷ 0 ∷ 2 ∷ 2 ∷ 1 ∷ 2

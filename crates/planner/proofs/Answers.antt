@@ -2,7 +2,7 @@
 -- alike.
 use mathlib.Core.Path.{_≡_, refl, sym, ap, _∙_}
 use mathlib.Core.Bool.{true, false}
-use Prim.Native.Nat.{ℕ, zero, suc, _≤_}
+use Prim.Native.Nat.{ℕ, _≤_}
 use native.Mathlib.Omega.{arith}
 use lib.IntN.{ℤ}
 use Rattle.whole.specs.Test.{isFrom}
@@ -56,14 +56,6 @@ module _ {A : Type 0} (refused : ℕ → A) {number : ℕ} where
 
   pub out-accepted : {s x : A} → number ≡ 0 → x ≡ s → x ≡ answer refused number s
   out-accepted {s} e f = f ∙ sym (answer-accepted refused number s e)
-
-  -- an answer that has no number of a refusal was not refused
-  pub not-refused : (refusal : A → ℕ) → ((n : ℕ) → refusal (refused n) ≡ n) → (s : A) → refusal (answer refused number s) ≡ 0 → number ≡ 0
-  not-refused refusal same s e = go number e
-    where
-      go : (n : ℕ) → refusal (answer refused n s) ≡ 0 → n ≡ 0
-      go zero f = refl
-      go (suc n) f = sym (same (suc n)) ∙ f
 
 -- ---- what the core's answer for a flow f tells
 module _ (r : ℕ → ℕ) (i f : ℕ → ℤ) (N : ℕ) {s : Reckoned} (e : s ≡ fundReckoned r i f N) where

@@ -17,7 +17,7 @@ use Rattle.whole.specs.Test.{both}
 use Rattle.whole.proofs.Bridge.{whole}
 use Rattle.whole.proofs.Range.{within-abs}
 use Rattle.whole.proofs.Sum.{largest-upper, largest-least}
-use Rattle.whole.proofs.Test.{picked-is}
+use Rattle.whole.proofs.Test.{picked-is, from-yes}
 use Rattle.whole.proofs.Table.{table-at}
 use Rattle.whole.proofs.Entry.{entry-each}
 use Rattle.reckoning.specs.Reckoning.{fund}
@@ -30,7 +30,7 @@ use Rattle.plan.specs.Numbers.{Numbers, rateAt, numbers}
 use Rattle.plan.specs.Refusal.{refusalOf, Accepted}
 use Rattle.plan.specs.declared.Plan.{Plan}
 use Rattle.plan.proofs.Numbers.{pattern-is, rate-is}
-use Rattle.plan.proofs.Checks.{first-none, answer-accepted, accepted}
+use Rattle.plan.proofs.Checks.{first-none, answer-accepted, not-refused, accepted}
 use Rattle.planner.specs.Calls.{
   noFund,
   noBound,
@@ -56,6 +56,7 @@ use Rattle.planner.specs.Verdict.{
   noVerdict,
   fundOf,
   patternWord,
+  rowOf,
   verdictRefusal,
   shortBits,
   planWord,
@@ -66,7 +67,7 @@ use Rattle.planner.specs.Demand3.{FundNear, FormNear, ShortPattern, Verd
 use Rattle.planner.specs.declared.FormAnswer.{FormAnswer}
 use Rattle.planner.specs.declared.VerdictAnswer.{VerdictAnswer}
 use Rattle.planner.proofs.Held.{terms, rollover-held}
-use Rattle.planner.proofs.Answers.{Called, called, not-refused, reckoned-is}
+use Rattle.planner.proofs.Answers.{refused-none, Called, called, reckoned-is}
 use Rattle.planner.proofs.Bits.{Lowest, bits-lowest}
 use Rattle.planner.proofs.VerdictLaws.{word-solvent, word-short, plan-solvent, plan-short}
 
@@ -115,7 +116,7 @@ module _ (plan : Plan) (t : ℕ) where
   module _ (e : fundAnswer P t .refusal ≡ 0) where
     fund-called : callRefusal P t ≡ 0
     unfolding fundAnswer
-    fund-called = not-refused noFund (λ (s : Reckoned). s .refusal) (λ n. refl) _ e
+    fund-called = not-refused noFund _ (λ (s : Reckoned). s .refusal) (λ n. refl) _ e
 
     fund-is : fundAnswer P t .fund ≡ fund (P .r) (P .i t) (P .years) (flowOf P)
     unfolding fundAnswer
@@ -128,7 +129,7 @@ module _ (plan : Plan) (t : ℕ) where
   module _ (e : formAnswer P t .refusal ≡ 0) where
     form-called : callRefusal P t ≡ 0
     unfolding formAnswer
-    form-called = not-refused noForm (λ (s : FormAnswer). s .refusal) (λ n. refl) _ e
+    form-called = not-refused noForm _ (λ (s : FormAnswer). s .refusal) (λ n. refl) _ e
 
     form-is : formAnswer P t .value ≡ value (P .a) (P .o) (P .r) (P .i t) (P .years) (P .instruments) (P .p)
     unfolding formAnswer formReckoned formOf
@@ -160,7 +161,7 @@ module _ (plan : Plan) where
   module _ (e : verdictAnswer (numbers plan) .refusal ≡ 0) where
     verdict-called : verdictRefusal (numbers plan) ≡ 0
     unfolding verdictAnswer
-    verdict-called = not-refused noVerdict (λ (s : VerdictAnswer). s .refusal) (λ n. refl) _ e
+    verdict-called = not-refused noVerdict _ (λ (s : VerdictAnswer). s .refusal) (λ n. refl) _ e
 
     ok : Accepted (numbers plan)
     unfolding verdictRefusal
@@ -183,13 +184,27 @@ module _ (plan : Plan) where
           ap (λ (s : VerdictAnswer). getD (s .words) (t - 1) 0) verdict-is
           ∙ table-at 64 m word 0 0 (t - 1) (omega arith) (ok .head .patterns-few) ∙ word-is
 
+      called-too : Called plan t
+      called-too = record { plan-ok = ok; some = some; few = few }
+
       solvent-fund : patternWord (numbers plan) t ≡ solvent → pos 0 ≤ℤ exactFund (numbers plan) t
       unfolding patternWord fundOf
-      solvent-fund h = exactly-solvent (fund-below plan t (record { plan-ok = ok; some = some; few = few })) (word-solvent _ _ h)
+      solvent-fund h = exactly-solvent (fund-below plan t called-too) (word-solvent _ _ h)
 
       short-fund : patternWord (numbers plan) t ≡ short → exactFund (numbers plan) t <ℤ pos 0
       unfolding patternWord fundOf
-      short-fund h = exactly-short (fund-below plan t (record { plan-ok = ok; some = some; few = few })) (word-short _ _ h)
+      short-fund h = exactly-short (fund-below plan t called-too) (word-short _ _ h)
+
+      -- the row's fund, and its bound
+      pub row-near : FromBelow (plan .years) (exactFund (numbers plan) t) (rowOf (numbers plan) t .fund) (boundOf (numbers plan) t)
+      unfolding rowOf fundOf
+      row-near = fund-below plan t called-too
+
+      pub row-bound : boundAnswer (numbers plan) t ≡ record { refusal = 0; bound = rowOf (numbers plan) t .bound }
+      unfolding rowOf verdictRefusal
+      row-bound =
+          bound-is plan t
+          (sym (refused-none (numbers plan) t (first-none (refusalOf (numbers plan)) _ verdict-called) (from-yes 1 m t some few)))
 
       all-solvent : verdictAnswer (numbers plan) .word ≡ solvent → patternWord (numbers plan) t ≡ solvent
       all-solvent h = sym word-is ∙ plan-solvent m word (bitsOf m isShort) (sym plan-word-is ∙ h) (t - 1) (omega arith)
@@ -202,7 +217,7 @@ module _ (plan : Plan) where
         let few : 1 + t ≤ m = omega (arith, lowest .few) in
         record { pattern = 1 + t; some = omega arith; few = few; below = short-fund (1 + t) (omega arith) few (eqb-true _ _ (lowest .holds)) }
 
-  verdict-true : VerdictTrue (numbers plan) (verdictAnswer (numbers plan))
+  pub verdict-true : VerdictTrue (numbers plan) (verdictAnswer (numbers plan))
   verdict-true = record {
     pattern-solvent = λ e t some few h. solvent-fund e t some few (sym (word-at e t some few) ∙ h);
     pattern-short = λ e t some few h. short-fund e t some few (sym (word-at e t some few) ∙ h);

@@ -1,0 +1,48 @@
+-- The plans of document 01's worked cases: L and its neighbours, and the plans of one year.
+use mathlib.Core.List.{_∷_}
+use Prim.Native.Nat.{ℕ}
+use lib.ListN.{replicate}
+use lib.IntN.{ℤ, pos}
+use Rattle.plan.specs.declared.Instrument.{Instrument}
+use Rattle.plan.specs.declared.Pattern.{Pattern}
+use Rattle.plan.specs.declared.Plan.{Plan}
+
+abbrev noPayments : Instrument
+noPayments = record { payments = replicate 30 (pos 0) }
+
+abbrev noRates : Pattern
+noRates = record { rates = replicate 30 0 }
+
+-- L, but for the share that is rolled over in the first term and the rate of the first pattern
+unfoldable pub nearL : (share rate : ℕ) → Plan
+nearL share rate = record {
+  years = 2;
+  instruments = 2;
+  terms = 1;
+  patterns = 2;
+  instrument =
+      record { payments = pos 1_080_000_000 ∷ replicate 29 (pos 0) }
+      ∷ record { payments = pos 80_000_000 ∷ pos 1_080_000_000 ∷ replicate 28 (pos 0) }
+      ∷ replicate 14 noPayments;
+  outflows = pos 0 ∷ pos 1_160_000_000 ∷ replicate 28 (pos 0);
+  rollover = share ∷ replicate 29 0;
+  pattern = record { rates = rate ∷ replicate 29 0 } ∷ record { rates = 90_000 ∷ replicate 29 0 } ∷ replicate 62 noRates;
+  allocation = 500_000 ∷ 500_000 ∷ replicate 14 0;
+}
+
+unfoldable pub planL : Plan
+planL = nearL 1_000_000 60_000
+
+-- one year, one payment of 1080000000, and an outflow
+unfoldable pub oneYear : (outflow : ℤ) → Plan
+oneYear outflow = record {
+  years = 1;
+  instruments = 1;
+  terms = 1;
+  patterns = 1;
+  instrument = record { payments = pos 1_080_000_000 ∷ replicate 29 (pos 0) } ∷ replicate 15 noPayments;
+  outflows = outflow ∷ replicate 29 (pos 0);
+  rollover = 1_000_000 ∷ replicate 29 0;
+  pattern = replicate 64 noRates;
+  allocation = 1_000_000 ∷ replicate 15 0;
+}

@@ -1,0 +1,41 @@
+-- The starred cases of document 01, computed: one joint result over their list.
+use mathlib.Core.Path.{_≡_, refl}
+use mathlib.Core.Bool.{true}
+use mathlib.Core.List.{List·Memᴰ}
+use Rattle.whole.specs.Floor.{floor, shareOf}
+use Rattle.whole.specs.Sum.{sum, sumℕ, largest}
+use Rattle.whole.specs.Course.{course, history}
+use Rattle.whole.specs.Entry.{nth, cut, entry}
+use Rattle.whole.specs.Test.{isBetween, isSame}
+use Rattle.whole.specs.Case.{Case, agree, shareCases}
+use Rattle.whole.proofs.Case.{agree-at, agree-join, shares-agree}
+use Rattle.reckoning.specs.Reckoning.{w, paid, flow, sent, alpha-step, alpha, fund}
+use Rattle.reckoning.specs.Bound.{h, ceiling, G, B}
+use Rattle.reckoning.specs.Case.{boundCases, gammaCases}
+use Rattle.reckoning.proofs.Case.{bounds-agree, gammas-agree}
+use Rattle.plan.specs.Numbers.{paymentsOf, outflowsOf, rolloverOf, ratesOf, allocationOf}
+use Rattle.plan.specs.Case.{nearL, planL, oneYear}
+use Rattle.planner.specs.Calls.{flowOf, boundOf}
+use Rattle.planner.specs.Verdict.{wordOf, fundOf, patternWord}
+use Rattle.planner.specs.Case.{fundCases, wordCases, starredCases}
+
+funds-agree : agree fundCases ≡ true
+unfolding agree fundCases isSame isBetween fundOf flowOf paymentsOf outflowsOf rolloverOf ratesOf allocationOf fund alpha alpha-step sent flow paid w floor shareOf
+    sum sumℕ course history nth cut entry planL nearL
+funds-agree = refl
+
+words-agree : agree wordCases ≡ true
+unfolding agree wordCases isSame isBetween patternWord wordOf fundOf boundOf flowOf paymentsOf outflowsOf rolloverOf ratesOf allocationOf fund alpha alpha-step sent
+    flow paid w floor shareOf h ceiling G B sum sumℕ largest course history nth cut entry oneYear
+words-agree = refl
+
+all-agree : agree starredCases ≡ true
+all-agree =
+    agree-join shareCases _ shares-agree
+    (agree-join boundCases _ bounds-agree
+    (agree-join gammaCases _ gammas-agree
+    (agree-join fundCases _ funds-agree words-agree)))
+
+-- in every starred case the definitions give what the paper states
+pub starred : (c : Case) → List·Memᴰ c starredCases → c .given ≡ c .stated
+starred c = agree-at starredCases c all-agree
