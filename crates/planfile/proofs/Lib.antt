@@ -1,5 +1,6 @@
 -- The laws of plan files: Runs of the numbers in a body, Places of the records of a plan and of their lengths, Checks and Filling
--- of the reader, Wrote and WriteAnswers of the writer, Written and Again both round trips, Examples the case L.
+-- of the reader, Wrote and WriteAnswers of the writer, Written and Again both round trips, Numbers the numbers that a file is read
+-- as, Examples the case L.
 pub mod Runs
 pub mod Places
 pub mod Checks
@@ -7,5 +8,6 @@ pub mod Filling
 pub mod Wrote
 pub mod WriteAnswers
 pub mod Written
+pub mod Numbers
 pub mod Again
 pub mod Examples

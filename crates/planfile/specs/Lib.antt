@@ -1,8 +1,9 @@
 -- The plan file: Format says which records it has and what stands in them, Read what a file is read as, with its refusals in
--- their order, Write what a plan is written as, Cleared what that file is read as. Reading and Parts are for the reader's and the
--- writer's own functions.
+-- their order, Numbers what it means, Write what a plan is written as, Cleared what that file is read as. Reading and Parts are for
+-- the reader's and the writer's own functions.
 pub mod Format
 pub mod Read
+pub mod Numbers
 pub mod Write
 pub mod Cleared
 pub mod Reading
