@@ -1,0 +1,30 @@
+-- What the last line counts, over a plan's numbers P: its second field is how many patterns are short, its third the lowest of them.
+use mathlib.Core.Path.{_≡_}
+use mathlib.Core.Bool.{Bool}
+use Prim.Native.Nat.{ℕ, _+_, _≤_}
+use borrow.Author.Tests.{eq-eqb, ne-eqb}
+use lib.Count.{ones, trailingZeros}
+use lib.Dec.{eqb}
+use Rattle.whole.specs.Sum.{sumℕ}
+use Rattle.whole.specs.Test.{pick}
+use Rattle.plan.specs.Numbers.{Numbers}
+use Rattle.planner.specs.Verdict.{short, patternWord, shortBits}
+use Rattle.planner.proofs.Bits.{Lowest, bits-ones, bits-lowest}
+use Rattle.listing.specs.Text.{lowestShort}
+
+module _ (P : Numbers) where
+  abbrev isShort : (t : ℕ) → Bool
+  isShort t = eqb (patternWord P (1 + t)) short
+
+  pub counts-short : ones (shortBits P) ≡ sumℕ (P .patterns) (λ t. pick (isShort t) 1 0)
+  unfolding shortBits
+  counts-short = bits-ones (P .patterns) isShort
+
+  pub lowest-none : shortBits P ≡ 0 → lowestShort (shortBits P) ≡ 0
+  unfolding lowestShort
+  lowest-none e = rw (eq-eqb (shortBits P) 0 e)
+
+  -- patterns count from 1
+  pub lowest-is : P .patterns ≤ 64 → (shortBits P ≡ 0 → ⊥) → (t : ℕ) × Lowest (P .patterns) isShort t × (lowestShort (shortBits P) ≡ t + 1)
+  unfolding shortBits lowestShort
+  lowest-is few some = (trailingZeros 64 (shortBits P), bits-lowest (P .patterns) 64 isShort few some, rw (ne-eqb (shortBits P) 0 some))

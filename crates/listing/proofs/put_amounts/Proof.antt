@@ -1,0 +1,54 @@
+-- `listing::put_amounts` puts down the fields of a row. Each number of the row fits 64 bits.
+use mathlib.Core.Path.{ap}
+use native.Mathlib.Omega.{arith}
+use borrow.Author.Needs.{needs}
+use mir.Syntax.{w64}
+use mir.Val.{SFits}
+use Rattle.whole.proofs.Range.{back}
+use Rattle.listing.specs.Text.{field, amountsText}
+use Rattle.listing.proofs.Wrote.{wrote-then, wrote-more, wrote-as}
+use Rattle.listing.proofs.put_amounts.Statement.{statement}
+use Rattle.listing.proofs.put_amounts.Tie as tie
+
+put-field-requires : tie.Need-put-field-requires
+put-field-requires c κs = search needs
+
+put-field-requires-2 : tie.Need-put-field-requires-2
+put-field-requires-2 c κs = search needs
+
+put-fields-requires : tie.Need-put-fields-requires
+put-fields-requires c κs = search needs
+
+put-field-requires-3 : tie.Need-put-field-requires-3
+put-field-requires-3 c κs = search needs
+
+same-length : tie.Need-same-length
+same-length c = search needs
+
+returns : tie.Need-returns
+unfolding amountsText
+returns c =
+    let s = c .before .before .before in
+    let k = s .before .before .before .before in
+    let b = k .before .before .before .before .before in
+    let a = b .before .before .before .before .before in
+    let row = a .before .before .before .before .args .row in
+    let e : SFits w64 (row .fund) = search (needs, s .struct-told3 .given) in
+    let f : SFits w64 (row .bound) = search (needs, s .struct-told3 .given) in
+    let g : SFits w64 (row .constant) = search (needs, s .struct-told3 .given) in
+    wrote-more (omega arith) (wrote-then (wrote-then (wrote-then
+    (wrote-as (ap field (back e)) (a .put-field .ensures))
+    (wrote-as (ap field (back f)) (b .put-field2 .ensures)))
+    (k .put-fields .ensures))
+    (wrote-as (ap field (back g)) (c .before .before .put-field3 .ensures)))
+
+pub put-amounts-spec : {M : Type 1} → statement M
+put-amounts-spec =
+    tie.close
+    (tie.spec
+    put-field-requires
+    put-field-requires-2
+    put-fields-requires
+    put-field-requires-3
+    same-length
+    returns)

@@ -1,0 +1,5 @@
+-- The listing: Text has what is printed for a file, Putting what it is to put a text into a lent buffer. Demand3 has what all
+-- answers say of the exact fund, for plans and for files.
+pub mod Text
+pub mod Demand3
+pub mod Putting
