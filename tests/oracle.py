@@ -1,0 +1,242 @@
+"""Document 01 in unbounded whole numbers: what a plan file is read as, what each call answers, what the program prints.
+
+Written from the papers alone. It is slow and plain on purpose: every sum is the paper's sum, and nothing is cut short.
+"""
+import struct
+
+MILLION = 10 ** 6
+LIMIT = 10 ** 12
+WORDS = {1: "solvent", 2: "short", 3: "close"}
+
+
+class Refused(Exception):
+    """A refusal, with its number."""
+
+    def __init__(self, number):
+        super().__init__(number)
+        self.number = number
+
+
+class Plan:
+    """N, n, q, m, and a_kj, o_k, r_j, i_k of pattern t, p_j by the paper's indices, from 1; i_k from 2."""
+
+    def __init__(self, payments, outflows, rollover, rates, allocation):
+        self.payments = payments      # a list for each instrument
+        self.outflows = outflows
+        self.rollover = rollover
+        self.rates = rates            # a list for each pattern, which begins with i_2
+        self.allocation = allocation
+        self.N = len(outflows)
+        self.n = len(payments)
+        self.q = len(rollover)
+        self.m = len(rates)
+        self.left = [MILLION - sum(rollover[:d]) for d in range(self.q + 1)]
+
+    def a(self, k, j):
+        return self.payments[j - 1][k - 1]
+
+    def o(self, k):
+        return self.outflows[k - 1]
+
+    def r(self, j):
+        return self.rollover[j - 1] if j <= self.q else 0
+
+    def i(self, t, k):
+        return self.rates[t - 1][k - 2]
+
+    def p(self, j):
+        return self.allocation[j - 1]
+
+
+# ---- the plan file
+
+
+def records(data):
+    """The records taken off from the front, as (kind, body); check 2."""
+    found, at = [], 0
+    while at < len(data):
+        if len(data) - at < 4:
+            raise Refused(2)
+        size, kind = struct.unpack_from("<HH", data, at)
+        if len(data) - at - 4 < size:
+            raise Refused(2)
+        found.append((kind, data[at + 4:at + 4 + size]))
+        at += 4 + size
+    return found
+
+
+def numbers(body, width, signed=False):
+    return [int.from_bytes(body[k:k + width], "little", signed=signed) for k in range(0, len(body), width)]
+
+
+def read(data):
+    """The plan of a file; checks 1 to 9, each over all records before the next begins."""
+    if len(data) > 16384:
+        raise Refused(1)
+    found = records(data)
+    if not found or found[0][0] != 1 or len(found[0][1]) != 4:
+        raise Refused(3)
+    N, n, q, m = found[0][1]
+    if not (1 <= N <= 30 and 1 <= n <= 16 and 1 <= q <= 30 and 1 <= m <= 64):
+        raise Refused(3)
+    if [kind for kind, _ in found] != [1] + [2] * n + [3, 4] + [5] * m + [6]:
+        raise Refused(4)
+    size = {1: 4, 2: 8 * N, 3: 8 * N, 4: 4 * q, 5: 4 * (N - 1), 6: 4 * n}
+    if any(len(body) != size[kind] for kind, body in found):
+        raise Refused(5)
+    bodies = {kind: [body for other, body in found if other == kind] for kind in size}
+    plan = Plan(
+        [numbers(body, 8, True) for body in bodies[2]],
+        numbers(bodies[3][0], 8, True),
+        numbers(bodies[4][0], 4),
+        [numbers(body, 4) for body in bodies[5]],
+        numbers(bodies[6][0], 4),
+    )
+    check(plan)
+    return plan
+
+
+def check(plan):
+    """Checks 6 to 9."""
+    most = 20 * 10 ** 9
+    if any(not 0 <= x <= most for row in plan.payments for x in row) or any(not -most <= x <= most for x in plan.outflows):
+        raise Refused(6)
+    if sum(plan.rollover) != MILLION:
+        raise Refused(7)
+    if any(rate > 200000 for row in plan.rates for rate in row):
+        raise Refused(8)
+    if sum(plan.allocation) != MILLION:
+        raise Refused(9)
+
+
+def write(plan):
+    """The one file that is read as the plan."""
+
+    def record(kind, code, values):
+        body = struct.pack(f"<{len(values)}{code}", *values)
+        return struct.pack("<HH", len(body), kind) + body
+
+    out = record(1, "B", [plan.N, plan.n, plan.q, plan.m])
+    for row in plan.payments:
+        out += record(2, "q", row)
+    out += record(3, "q", plan.outflows)
+    out += record(4, "I", plan.rollover)
+    for row in plan.rates:
+        out += record(5, "I", row)
+    return out + record(6, "I", plan.allocation)
+
+
+# ---- the yearly reckoning
+
+
+def share(x, f):
+    return x * f // MILLION
+
+
+def w(plan, d):
+    """What is left after d terms: 1,000,000 - r_1 - ... - r_d."""
+    return plan.left[min(d, plan.q)]
+
+
+def taken(x):
+    """Check 11."""
+    if not -LIMIT <= x <= LIMIT:
+        raise Refused(11)
+    return x
+
+
+def flow(plan):
+    """The allocation's flow, years 1 to N."""
+    return {k: sum(plan.a(k, j) * plan.p(j) for j in range(1, plan.n + 1)) // MILLION - plan.o(k) for k in years(plan)}
+
+
+def years(plan):
+    return range(1, plan.N + 1)
+
+
+def cells(plan, t, flow):
+    """alpha_2 to alpha_(N+1)."""
+    alpha = {}
+    for k in range(2, plan.N + 2):
+        alpha[k] = flow[k - 1] + sum(
+            share(alpha[l], plan.r(k - l)) + share(share(alpha[l], w(plan, k - l - 1)), plan.i(t, l)) for l in range(2, k))
+    return alpha
+
+
+def fund(plan, t, flow):
+    """The fund of a flow in pattern t, with check 11 on its cells and on itself."""
+    alpha = cells(plan, t, flow)
+    for x in alpha.values():
+        taken(x)
+    return taken(sum(share(alpha[k], w(plan, plan.N + 1 - k)) for k in range(2, plan.N + 2)))
+
+
+# ---- Tilley's exact fund
+
+
+def exact(plan, t):
+    """H: the exact fund is H / 10^(12 N)."""
+    x = {k: sum(plan.a(k, j) * plan.p(j) for j in range(1, plan.n + 1)) - MILLION * plan.o(k) for k in years(plan)}
+    E = {}
+    for k in range(2, plan.N + 2):
+        E[k] = x[k - 1] * 10 ** (12 * (k - 2)) + sum(
+            E[l] * (MILLION * plan.r(k - l) + plan.i(t, l) * w(plan, k - l - 1)) * 10 ** (12 * (k - l - 1)) for l in range(2, k))
+    return sum(E[k] * w(plan, plan.N + 1 - k) * 10 ** (12 * (plan.N + 1 - k)) for k in range(2, plan.N + 2))
+
+
+# ---- bound, form, gammas, verdict
+
+
+def bound(plan, t):
+    h = max(plan.rates[t - 1], default=0)
+    G = 1
+    for k in range(3, plan.N + 2):
+        G = G + -(-G * h // MILLION) + 3 * k - 5
+    return G + plan.N
+
+
+def pattern(plan, t):
+    """Check 10."""
+    if not 1 <= t <= plan.m:
+        raise Refused(10)
+
+
+def form(plan, t):
+    """K_1 to K_n, Q, and the value at the plan's allocation."""
+    K = [fund(plan, t, {k: plan.a(k, j) for k in years(plan)}) for j in range(1, plan.n + 1)]
+    Q = fund(plan, t, {k: -plan.o(k) for k in years(plan)})
+    return K, Q, sum(x * p for x, p in zip(K, plan.allocation)) // MILLION + Q
+
+
+def gammas(plan, t):
+    """A row for each k = 2 to N + 1: entry l is alpha_k of 1,000,000,000 in year l."""
+    columns = [cells(plan, t, {k: 10 ** 9 if k == l else 0 for k in years(plan)}) for l in years(plan)]
+    return [[taken(column[k]) for column in columns] for k in range(2, plan.N + 2)]
+
+
+def word(z, b):
+    return 1 if z >= 0 else 2 if z + b <= 0 else 3
+
+
+def verdict(plan):
+    """Each pattern's (word, fund, B, K, Q), the word of bits, the plan's word."""
+    rows = []
+    x = flow(plan)
+    for t in range(1, plan.m + 1):
+        z, b = fund(plan, t, x), bound(plan, t)
+        K, Q, _ = form(plan, t)
+        rows.append((word(z, b), z, b, K, Q))
+    bits = sum(1 << t for t, row in enumerate(rows) if row[0] == 2)
+    return rows, bits, 2 if bits else 1 if all(row[0] == 1 for row in rows) else 3
+
+
+def listing(data):
+    """What the program prints for a file."""
+    try:
+        rows, bits, plan_word = verdict(read(data))
+    except Refused as refusal:
+        return f"refused {refusal.number}\n"
+    short = [t for t, row in enumerate(rows, 1) if row[0] == 2]
+    lines = [f"{t} {WORDS[row[0]]} " + " ".join(map(str, [row[1], row[2], *row[3], row[4]])) for t, row in enumerate(rows, 1)]
+    lines.append(f"{WORDS[plan_word]} {len(short)} {short[0] if short else 0}")
+    return "\n".join(lines) + "\n"
