@@ -11,6 +11,7 @@ use Rattle.plan.specs.Numbers.{numbers}
 use Rattle.plan.specs.Refusal.{answer}
 use Rattle.plan.specs.declared.Plan.{Plan}
 use Rattle.planner.specs.Verdict.{solvent, short, judgementOf}
+use Rattle.planner.specs.Rows.{rowIn}
 use Rattle.planner.specs.declared.PatternRow.{PatternRow}
 use Rattle.planner.specs.declared.Judgement.{Judgement}
 use Rattle.planfile.specs.Read.{readAnswer}
@@ -57,12 +58,9 @@ unfoldable pub lineText : (n t : ℕ) → PatternRow → List ℕ
 lineText n t row = decimal t ++ (32 ∷ []) ++ wordText (row .word) ++ amountsText n row ++ (10 ∷ [])
 
 -- the lines of patterns 1 to m; row t - 1 of the array is pattern t's
-abbrev pub rowAt : List PatternRow → ℕ → PatternRow
-rowAt rows t = getD rows t (record { word = 0; fund = pos 0; bound = pos 0; coefficients = []; constant = pos 0 })
-
 unfoldable pub linesText : (m n : ℕ) → List PatternRow → List ℕ
 linesText zero n rows = []
-linesText (suc m) n rows = linesText m n rows ++ lineText n (m + 1) (rowAt rows m)
+linesText (suc m) n rows = linesText m n rows ++ lineText n (m + 1) (rowIn rows m)
 
 -- the lowest short number, from the word of bits in which bit t - 1 is set if pattern t is short; 0 if none is
 unfoldable pub lowestShort : (bits : ℕ) → ℕ
