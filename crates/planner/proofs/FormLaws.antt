@@ -1,5 +1,5 @@
 -- The form that the coefficients and the constant of a plan make, at the rates i.
-use mathlib.Core.Path.{_≡_, refl, sym, ap, ap₂, _∙_}
+use mathlib.Core.Path.{_≡_, sym, ap, ap₂, _∙_}
 use mathlib.Core.Bool.{true}
 use Prim.Native.Nat.{ℕ, _+_, _*_, _<_}
 use native.Mathlib.Nat.{le-of-eq}
@@ -15,7 +15,7 @@ use Rattle.whole.specs.Table.{table}
 use Rattle.whole.proofs.Range.{within-add, within-fits}
 use Rattle.whole.proofs.Floor.{floor-within}
 use Rattle.whole.proofs.Sum.{Σℕ-from, Σℤ-from}
-use Rattle.whole.proofs.Test.{both-second, both-not, picked-yes, picked-no, picked-is, all-at, between-fact}
+use Rattle.whole.proofs.Test.{both-second, both-not, all-at, between-fact}
 use Rattle.whole.proofs.Table.{table-at}
 use Rattle.reckoning.specs.Reckoning.{fund}
 use Rattle.reckoning.specs.Bound.{K, Q, value}
@@ -26,8 +26,9 @@ use Rattle.plan.specs.Refusal.{Accepted}
 use Rattle.plan.specs.declared.Plan.{Plan}
 use Rattle.plan.proofs.Numbers.{allocation-is}
 use Rattle.planner.specs.Calls.{noForm, coefficientsFit, constantFits, formOf, formReckoned}
-use Rattle.planner.specs.Arrays.{coefficientsOf, Weighable}
+use Rattle.planner.specs.Arrays.{fundsReckoned, Weighable}
 use Rattle.planner.specs.declared.Coefficients.{Coefficients}
+use Rattle.planner.proofs.FormLoops.{funds-refused, funds-fit, funds-are}
 use Rattle.planner.proofs.Answers.{reckoned-refused, reckoned-fits, reckoned-is}
 
 -- ---- the ways out
@@ -35,18 +36,22 @@ module _ (P : Numbers) (i : ℕ → ℤ) where
   abbrev Kⱼ : (j : ℕ) → ℤ
   Kⱼ j = K (P .a) (P .o) (P .r) i (P .years) (1 + j)
 
-  module _ {c : Coefficients} (e : c ≡ coefficientsOf P i) where
+  -- the funds of the instruments
+  abbrev pub coefficientsOf : Coefficients
+  coefficientsOf = fundsReckoned (P .r) i (P .years) (P .instruments) (λ j k. P .a k (1 + j))
+
+  module _ {c : Coefficients} (e : c ≡ coefficientsOf) where
     pub coefficients-refused : (c .refusal ≡ 0 → ⊥) → noForm 11 ≡ formReckoned P i
-    unfolding coefficientsOf formReckoned
-    coefficients-refused h = rw (picked-no (λ (c : Coefficients). c .refusal) _ _ refl (λ z. omega arith) (coefficientsFit P i) c e h)
+    unfolding formReckoned coefficientsFit
+    coefficients-refused h = rw (funds-refused (P .r) i (λ j k. P .a k (1 + j)) (P .years) (P .instruments) e h)
 
     pub coefficients-fit : c .refusal ≡ 0 → coefficientsFit P i ≡ true
-    unfolding coefficientsOf
-    coefficients-fit = picked-yes (λ (c : Coefficients). c .refusal) _ _ refl (λ z. omega arith) (coefficientsFit P i) c e
+    unfolding coefficientsFit
+    coefficients-fit = funds-fit (P .r) i (λ j k. P .a k (1 + j)) (P .years) (P .instruments) e
 
     pub coefficients-are : c .refusal ≡ 0 → c .values ≡ table 16 (P .instruments) Kⱼ (pos 0)
-    unfolding coefficientsOf
-    coefficients-are h = ap (λ (c : Coefficients). c .values) (picked-is (λ (c : Coefficients). c .refusal) _ _ refl (λ z. omega arith) (coefficientsFit P i) c e h)
+    unfolding K
+    coefficients-are = funds-are (P .r) i (λ j k. P .a k (1 + j)) (P .years) (P .instruments) e
 
   module _ {d : Reckoned} (e : d ≡ fundAnswer (P .r) i (λ k. negℤ (P .o k)) (P .years)) where
     pub constant-refused : (d .refusal ≡ 0 → ⊥) → noForm 11 ≡ formReckoned P i
@@ -57,7 +62,7 @@ module _ (P : Numbers) (i : ℕ → ℤ) where
     unfolding Q
     constant-of = reckoned-is (P .r) i (λ k. negℤ (P .o k)) (P .years) e
 
-    pub form-made : {c : Coefficients} {z : ℤ} → c ≡ coefficientsOf P i → c .refusal ≡ 0 → d .refusal ≡ 0 → z ≡ value (P .a) (P .o) (P .r) i (P .years) (P .instruments) (P .p) →
+    pub form-made : {c : Coefficients} {z : ℤ} → c ≡ coefficientsOf → c .refusal ≡ 0 → d .refusal ≡ 0 → z ≡ value (P .a) (P .o) (P .r) i (P .years) (P .instruments) (P .p) →
         record { refusal = 0; coefficients = c .values; constant = d .fund; value = z } ≡ formReckoned P i
     unfolding formReckoned formOf constantFits
     form-made f g h z-is =

@@ -9,11 +9,12 @@ use lib.ListN.{getD}
 use lib.IntN.{ℤ, pos, natAbs, negℤ, _-ℤ_, _*ℤ_, zero-*ℤ}
 use Rattle.whole.specs.Range.{million, limit, Between, Within}
 use Rattle.whole.specs.Floor.{floor}
+use Rattle.whole.specs.Table.{table}
 use Rattle.whole.proofs.Bridge.{whole}
 use Rattle.whole.proofs.Range.{within-more, within-sub, within-neg}
 use Rattle.whole.proofs.Floor.{floor-within}
 use Rattle.whole.proofs.Sum.{sum-zeros, sum-within-parts, sumℕ-one}
-use Rattle.whole.proofs.Table.{table-at, table-each}
+use Rattle.whole.proofs.Table.{table-at, table-each, table-cong}
 use Rattle.whole.proofs.Entry.{nth-table, entry-cong, table-held}
 use Rattle.reckoning.specs.Reckoning.{paid, flow}
 use Rattle.reckoning.specs.Arrays.{sharesOf, ratesOf, amountsOf, Years, Terms, Rates, Amounts, noRow, weightsOf, Ready}
@@ -62,6 +63,11 @@ module _ (plan : Plan) (ok : Accepted (numbers plan)) where
       nth-table (pos 0) (plan .years - 1) (λ l. numbers plan .i (1 + (t - 1)) (2 + l)) 30 (omega (arith, ok .head .years-few)) (l - 1)
       ∙ entry-cong (pos 0) (plan .years - 1) _ (rateAt plan (t - 1)) (λ k m. rate-is plan (t - 1) k h m) (l - 1)
       ∙ sym (pattern-is plan (t - 1) l h)))
+
+  -- a pattern's rates as they are held
+  pub rates-array : (t : ℕ) → t < plan .patterns → table 30 (plan .years - 1) (rateAt plan t) (pos 0) ≡ ratesArray (numbers plan) (1 + t)
+  unfolding ratesArray
+  rates-array t h = table-cong 30 (plan .years - 1) _ _ (pos 0) (λ l m. sym (rate-is plan t l h m))
 
   pub flow-held : amountsOf (flowArray (numbers plan)) ≡ flowOf (numbers plan)
   unfolding amountsOf flowArray

@@ -1,26 +1,25 @@
 -- What the calls prepare of an accepted plan is what the core takes, and the core answers for the plan's own numbers.
-use mathlib.Core.Path.{_≡_, refl, sym, ap, ap₂}
-use mathlib.Core.Bool.{Bool}
-use mathlib.Core.List.{List, []}
+use mathlib.Core.Path.{_≡_, refl, sym, ap}
+use mathlib.Core.List.{List}
 use Prim.Native.Nat.{ℕ, _+_, _<_}
-use lib.ListN.{getD, replicate}
 use lib.IntN.{ℤ, pos, negℤ}
-use Rattle.whole.specs.Test.{pick}
+use Rattle.whole.specs.Test.{all}
+use Rattle.whole.specs.Table.{table}
 use Rattle.whole.proofs.Test.{all-cong}
 use Rattle.whole.proofs.Table.{table-cong}
 use Rattle.reckoning.specs.Reckoning.{fund}
-use Rattle.reckoning.specs.Bound.{K}
-use Rattle.reckoning.specs.Arrays.{sharesOf, ratesOf, amountsOf, Rates, Amounts, weightsOf, Ready, fundFits, fundAnswer, gammasAnswer}
+use Rattle.reckoning.specs.Arrays.{sharesOf, ratesOf, amountsOf, Rates, weightsOf, Ready, fundFits, fundAnswer, gammasAnswer}
 use Rattle.plan.specs.Numbers.{Numbers, numbers}
 use Rattle.plan.specs.Refusal.{Accepted}
 use Rattle.plan.specs.declared.Plan.{Plan}
-use Rattle.planner.specs.Calls.{flowOf, coefficientsFit}
-use Rattle.planner.specs.Arrays.{rolloverArray, ratesArray, flowArray, commonOf, coefficientsOf}
+use Rattle.planner.specs.Calls.{flowOf}
+use Rattle.planner.specs.Arrays.{rolloverArray, ratesArray, flowArray, commonOf, flowsIn, Flows, fundsReckoned}
+use Rattle.planner.specs.Rows.{rowAnswer}
 use Rattle.planner.specs.declared.Common.{Common}
-use Rattle.planner.specs.declared.Coefficients.{Coefficients}
 use Rattle.planner.proofs.Held.{rollover-held, rates-held, flow-held, outflow-held, payments-held, rates, flow-amounts, outflow-amounts, payments-amounts, ready}
 use Rattle.planner.proofs.Answers.{Called}
-use Rattle.planner.proofs.FormLoops.{fundsOf}
+use Rattle.planner.proofs.FormLaws.{coefficientsOf}
+use Rattle.planner.proofs.RowLaws.{rowReckoned}
 
 -- ---- one pattern
 module _ (plan : Plan) (t : ℕ) (c : Called plan t) {i : List ℤ} (e : i ≡ ratesArray (numbers plan) t) where
@@ -39,10 +38,6 @@ module _ (plan : Plan) (t : ℕ) (c : Called plan t) {i : List ℤ} (e : i ≡ r
     gammas-is = rw (f, pattern-held, rollover-held plan (c .plan-ok))
 
 -- ---- what all patterns share
--- the payments of instrument 1 + j
-abbrev pub paymentsIn : Common → (j : ℕ) → List ℤ
-paymentsIn common j = getD (common .payments) j (record { values = [] }) .values
-
 module _ (plan : Plan) (ok : Accepted (numbers plan)) {common : Common} (e : common ≡ commonOf (numbers plan)) where
   abbrev P : Numbers
   P = numbers plan
@@ -51,7 +46,15 @@ module _ (plan : Plan) (ok : Accepted (numbers plan)) {common : Common} (e : com
   unfolding commonOf
   common-rollover = rw e (rollover-held plan ok)
 
-  common-payments : (j : ℕ) → j < plan .instruments → amountsOf (paymentsIn common j) ≡ (λ k. P .a k (1 + j))
+  common-flow : amountsOf (common .flow) ≡ flowOf P
+  unfolding commonOf
+  common-flow = rw e (flow-held plan ok)
+
+  common-outflow : amountsOf (common .outflow) ≡ (λ k. negℤ (P .o k))
+  unfolding commonOf
+  common-outflow = rw e (outflow-held plan ok)
+
+  common-payments : (j : ℕ) → j < plan .instruments → flowsIn (common .payments) j ≡ (λ k. P .a k (1 + j))
   unfolding commonOf
   common-payments = rw e (payments-held plan ok)
 
@@ -59,30 +62,30 @@ module _ (plan : Plan) (ok : Accepted (numbers plan)) {common : Common} (e : com
   unfolding commonOf
   common-ready = rw e (ready plan ok refl (ap weightsOf (sym (rollover-held plan ok))))
 
-  pub payments-in : (j : ℕ) → j < plan .instruments → Amounts (paymentsIn common j)
+  pub common-flows : Flows (common .flow) (common .outflow) (plan .instruments) (common .payments)
   unfolding commonOf
-  payments-in = rw e (payments-amounts plan ok)
+  common-flows = rw e (record {
+    flow-amounts = flow-amounts plan ok;
+    outflow-amounts = outflow-amounts plan ok;
+    payments = record { few = ok .head .instruments-few; amounts = payments-amounts plan ok };
+  })
 
-  pub flow-in : Amounts (common .flow)
-  unfolding commonOf
-  flow-in = rw e (flow-amounts plan ok)
+  -- ---- the core's answers for what is prepared are those for the plan's numbers
+  all-fit : (i : ℕ → ℤ) → all (plan .instruments) (λ j. fundFits (P .r) i (flowsIn (common .payments) j) (plan .years)) ≡ all (plan .instruments) (λ j. fundFits (P .r) i (λ k. P .a k (1 + j)) (plan .years))
+  all-fit i = all-cong (plan .instruments) _ _ (λ j l. ap (λ (f : ℕ → ℤ). fundFits (P .r) i f (plan .years)) (common-payments j l))
 
-  pub outflow-in : Amounts (common .outflow)
-  unfolding commonOf
-  outflow-in = rw e (outflow-amounts plan ok)
+  all-funds : (i : ℕ → ℤ) → table 16 (plan .instruments) (λ j. fund (P .r) i (plan .years) (flowsIn (common .payments) j)) (pos 0) ≡ table 16 (plan .instruments) (λ j. fund (P .r) i (plan .years) (λ k. P .a k (1 + j))) (pos 0)
+  all-funds i = table-cong 16 (plan .instruments) _ _ (pos 0) (λ j l. ap (fund (P .r) i (plan .years)) (common-payments j l))
 
-  -- the funds of the instruments are the coefficients, that of the flow the plan's fund, that of -o the constant
-  pub coefficients-is : (i : ℕ → ℤ) → fundsOf (sharesOf (common .rollover)) i (λ j. amountsOf (paymentsIn common j)) (plan .years) (plan .instruments) ≡ coefficientsOf P i
-  unfolding coefficientsOf coefficientsFit K
-  coefficients-is i = rw common-rollover (ap₂
-      (λ (b : Bool) (v : List ℤ). pick {A = Coefficients} b (record { refusal = 0; values = v }) (record { refusal = 11; values = replicate 16 (pos 0) }))
-      (all-cong (plan .instruments) _ _ (λ j l. ap (λ (f : ℕ → ℤ). fundFits (P .r) i f (plan .years)) (common-payments j l)))
-      (table-cong 16 (plan .instruments) _ _ (pos 0) (λ j l. ap (fund (P .r) i (plan .years)) (common-payments j l))))
-
-  pub flow-is : (i : ℕ → ℤ) → fundAnswer (sharesOf (common .rollover)) i (amountsOf (common .flow)) (plan .years) ≡ fundAnswer (P .r) i (flowOf P) (plan .years)
-  unfolding commonOf
-  flow-is i = rw (e, rollover-held plan ok, flow-held plan ok)
+  pub coefficients-is : (i : ℕ → ℤ) → fundsReckoned (sharesOf (common .rollover)) i (plan .years) (plan .instruments) (flowsIn (common .payments)) ≡ coefficientsOf P i
+  unfolding fundsReckoned
+  coefficients-is i = rw (common-rollover, all-fit i, all-funds i)
 
   pub constant-is : (i : ℕ → ℤ) → fundAnswer (sharesOf (common .rollover)) i (amountsOf (common .outflow)) (plan .years) ≡ fundAnswer (P .r) i (λ k. negℤ (P .o k)) (plan .years)
-  unfolding commonOf
-  constant-is i = rw (e, rollover-held plan ok, outflow-held plan ok)
+  constant-is i = rw (common-rollover, common-outflow)
+
+  -- and what all of these come to is the row of the pattern
+  pub row-is : {i : ℕ → ℤ} (t : ℕ) → i ≡ P .i t →
+      rowAnswer (sharesOf (common .rollover)) i (plan .years) (plan .instruments) (amountsOf (common .flow)) (amountsOf (common .outflow)) (flowsIn (common .payments)) ≡ rowReckoned P t
+  unfolding rowAnswer
+  row-is t h = rw (h, common-rollover, common-flow, common-outflow, all-fit (P .i t), all-funds (P .i t))

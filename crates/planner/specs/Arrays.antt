@@ -1,19 +1,19 @@
 -- What the code prepares of a plan for the core: arrays that hold the plan's numbers P, with zeros past N, n and q.
-use mathlib.Core.List.{List}
+use mathlib.Core.List.{List, []}
 use Prim.Native.Nat.{ℕ, _+_, _-_, _≤_, _<_}
 use lib.ListN.{getD, replicate}
 use lib.IntN.{ℤ, pos, negℤ}
 use Rattle.whole.specs.Range.{million, limit, Within}
 use Rattle.whole.specs.Sum.{sumℕ}
-use Rattle.whole.specs.Test.{pick}
+use Rattle.whole.specs.Test.{pick, all}
 use Rattle.whole.specs.Table.{table}
-use Rattle.reckoning.specs.Bound.{K}
-use Rattle.reckoning.specs.Arrays.{noRow, weightsOf}
+use Rattle.reckoning.specs.Reckoning.{fund}
+use Rattle.reckoning.specs.Arrays.{amountsOf, Amounts, noRow, weightsOf, fundFits}
 use Rattle.reckoning.specs.declared.Row.{Row}
 use Rattle.plan.specs.Numbers.{Numbers}
 use Rattle.planner.specs.declared.Common.{Common}
 use Rattle.planner.specs.declared.Coefficients.{Coefficients}
-use Rattle.planner.specs.Calls.{flowOf, coefficientsFit}
+use Rattle.planner.specs.Calls.{flowOf}
 
 module _ (P : Numbers) where
   unfoldable pub rolloverArray : List ℤ
@@ -44,11 +44,29 @@ module _ (P : Numbers) where
     payments = paymentsRows;
   }
 
-  -- K_1 to K_n at the rates i, unless check 11 refuses one
-  unfoldable pub coefficientsOf : (i : ℕ → ℤ) → Coefficients
-  coefficientsOf i = pick (coefficientsFit P i)
-      (record { refusal = 0; values = table 16 (P .instruments) (λ j. K (P .a) (P .o) (P .r) i (P .years) (1 + j)) (pos 0) })
-      (record { refusal = 11; values = replicate 16 (pos 0) })
+-- ---- rows of amounts, counted from 0
+abbrev pub rowAt : List Row → (j : ℕ) → List ℤ
+rowAt rows j = getD rows j (record { values = [] }) .values
+
+abbrev pub flowsIn : List Row → (j k : ℕ) → ℤ
+flowsIn rows j = amountsOf (rowAt rows j)
+
+-- n rows of payments within the limit
+pub record Payments (n : ℕ) (rows : List Row) : Type 0 where
+  pub few : n ≤ 16
+  pub amounts : (j : ℕ) → j < n → Amounts (rowAt rows j)
+
+-- all that a pattern reckons: the allocation's flow, -o, and n rows of payments
+pub record Flows (flow outflow : List ℤ) (n : ℕ) (rows : List Row) : Type 0 where
+  pub flow-amounts : Amounts flow
+  pub outflow-amounts : Amounts outflow
+  pub payments : Payments n rows
+
+-- the funds of the flows a 0 to a (n - 1), unless check 11 refuses one
+unfoldable pub fundsReckoned : (r : ℕ → ℕ) (i : ℕ → ℤ) (N n : ℕ) (a : ℕ → ℕ → ℤ) → Coefficients
+fundsReckoned r i N n a = pick (all n (λ j. fundFits r i (a j) N))
+    (record { refusal = 0; values = table 16 n (λ j. fund r i N (a j)) (pos 0) })
+    (record { refusal = 11; values = replicate 16 (pos 0) })
 
 -- n coefficients within the limit, and parts of at most 1,000,000 together
 pub record Weighable (n : ℕ) (k : List ℤ) (p : List ℕ) : Type 0 where

@@ -3,16 +3,19 @@ use mathlib.Core.List.{List, []}
 use Prim.Native.Nat.{ℕ, _+_}
 use lib.Dec.{eqb}
 use lib.ListN.{getD, replicate}
-use lib.IntN.{pos}
-use Rattle.whole.specs.Test.{pick, all}
+use lib.IntN.{ℤ, pos}
+use Rattle.whole.specs.Test.{pick, both, all}
 use Rattle.whole.specs.Table.{table}
+use Rattle.reckoning.specs.Reckoning.{fund}
+use Rattle.reckoning.specs.Bound.{h, B}
+use Rattle.reckoning.specs.Arrays.{fundFits}
 use Rattle.plan.specs.Numbers.{Numbers}
 use Rattle.planner.specs.declared.PatternRow.{PatternRow}
 use Rattle.planner.specs.declared.PatternRows.{PatternRows}
 use Rattle.planner.specs.declared.OneRow.{OneRow}
 use Rattle.planner.specs.declared.VerdictAnswer.{VerdictAnswer}
 use Rattle.planner.specs.declared.Judgement.{Judgement}
-use Rattle.planner.specs.Verdict.{short, bitsOf, planWordOf, noVerdict, noPattern, rowFits, rowOf}
+use Rattle.planner.specs.Verdict.{short, wordOf, bitsOf, planWordOf, noVerdict, noPattern, rowFits, rowOf}
 
 -- what a refusal holds
 abbrev pub refusedRow : OneRow
@@ -20,6 +23,22 @@ refusedRow = record { refusal = 11; row = noPattern }
 
 abbrev pub noJudgement : ℕ → Judgement
 noJudgement number = record { verdict = noVerdict number; rows = replicate 64 noPattern }
+
+-- what a pattern comes to, of any flows: f is the allocation's, o is -o, and a 0 to a (n - 1) are the instruments'; unless check 11
+-- refuses one
+unfoldable pub rowAnswer : (r : ℕ → ℕ) (i : ℕ → ℤ) (N n : ℕ) (f o : ℕ → ℤ) (a : ℕ → ℕ → ℤ) → OneRow
+rowAnswer r i N n f o a = pick (both (fundFits r i f N) (both (all n (λ j. fundFits r i (a j) N)) (fundFits r i o N)))
+    (record {
+      refusal = 0;
+      row = record {
+        word = wordOf (fund r i N f) (pos (B (h i N) N));
+        fund = fund r i N f;
+        bound = pos (B (h i N) N);
+        coefficients = table 16 n (λ j. fund r i N (a j)) (pos 0);
+        constant = fund r i N o;
+      };
+    })
+    refusedRow
 
 -- the row of every pattern, unless check 11 refuses one
 unfoldable pub rowsReckoned : Numbers → PatternRows

@@ -15,7 +15,6 @@ use Rattle.plan.specs.Numbers.{Numbers}
 use Rattle.plan.specs.Refusal.{answer, firstOf, check, refusalOf}
 use Rattle.planner.specs.declared.PatternRow.{PatternRow}
 use Rattle.planner.specs.declared.Judgement.{Judgement}
-use Rattle.planner.specs.declared.OneRow.{OneRow}
 use Rattle.planner.specs.declared.VerdictAnswer.{VerdictAnswer}
 use Rattle.planner.specs.Calls.{flowOf, boundOf, coefficientsFit, constantFits}
 
@@ -92,7 +91,3 @@ module _ (P : Numbers) where
 
   unfoldable pub judgementOf : Judgement
   judgementOf = record { verdict = verdictAnswer; rows = rowsOf }
-
-  -- one pattern's row, unless check 11 refuses something in it
-  unfoldable pub rowReckoned : (t : ℕ) → OneRow
-  rowReckoned t = pick (rowFits t) (record { refusal = 0; row = rowOf t }) (record { refusal = 11; row = noPattern })

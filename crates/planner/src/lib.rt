@@ -12,14 +12,14 @@ ghost use Rattle.whole.specs.Range.{limit, Between, Within};
 ghost use Rattle.whole.specs.Sum.{sum};
 ghost use Rattle.whole.specs.Test.{pick};
 ghost use Rattle.whole.specs.Table.{table};
-ghost use Rattle.reckoning.specs.Arrays.{ratesOf, Rates};
+ghost use Rattle.reckoning.specs.Arrays.{sharesOf, ratesOf, amountsOf, Years, Rates, Ready};
 ghost use Rattle.plan.specs.Numbers.{numbers};
 ghost use Rattle.plan.specs.Refusal.{Accepted};
 ghost use Rattle.reckoning.specs.Reckoning.{paid as paidOf};
 ghost use Rattle.planner.specs.Calls.{noForm, callRefusal, fundAnswer, boundAnswer, gammasAnswer, formReckoned, formAnswer};
-ghost use Rattle.planner.specs.Verdict.{short, wordOf, bitsOf, noPattern, rowReckoned, planWordOf, verdictAnswer, judgementOf};
-ghost use Rattle.planner.specs.Arrays.{rolloverArray, ratesArray, flowArray, outflowArray, paymentsRows, commonOf, coefficientsOf, Weighable};
-ghost use Rattle.planner.specs.Rows.{refusedRow, noJudgement, rowsReckoned, rowIn, verdictOf};
+ghost use Rattle.planner.specs.Verdict.{short, wordOf, bitsOf, noPattern, planWordOf, verdictAnswer, judgementOf};
+ghost use Rattle.planner.specs.Arrays.{rolloverArray, ratesArray, flowArray, outflowArray, paymentsRows, commonOf, flowsIn, Payments, Flows, fundsReckoned, Weighable};
+ghost use Rattle.planner.specs.Rows.{refusedRow, rowAnswer, noJudgement, rowsReckoned, rowIn, verdictOf};
 ghost use Rattle.planner.specs.Demand3.{FundNear, FormNear, VerdictTrue};
 
 pub struct BoundAnswer {
@@ -187,23 +187,26 @@ fn common_of(plan: Plan) -> Common
 
 // ---- the form at given rates
 
-// K_1 to K_n.
-fn coefficients_of(plan: Plan, common: Common, i: [i64; 30]) -> Coefficients
-    requires { ⌜ Accepted (numbers plan) ⌝ }
-    requires { ⌜ common ≡ commonOf (numbers plan) ⌝ }
-    requires { ⌜ Rates i ⌝ }
-    ensures { λ s. ⌜ s ≡ coefficientsOf (numbers plan) (ratesOf i) ⌝ }
+// The funds of n rows of payments: K_1 to K_n.
+fn coefficients_of(
+    payments: [Row; 16],
+    r: &[i64; 30],
+    w: &[i64; 30],
+    i: &[i64; 30],
+    n: usize,
+    years: usize,
+    q: usize,
+) -> Coefficients
+    requires { ⌜ Ready q (now r) (now w) (now i) ⌝ }
+    requires { ⌜ Payments n payments ⌝ }
+    requires { ⌜ Years years ⌝ }
+    ensures { λ s. ⌜ s ≡ fundsReckoned (sharesOf (now (r .entry))) (ratesOf (now (i .entry))) years n (flowsIn payments) ⌝ }
 {
-    let n = plan.instruments;
-    let years = plan.years;
-    let q = plan.terms;
-    let r = common.rollover;
-    let w = common.weights;
     let mut k = [0i64; 16];
     for j in 0..n {
-        let row = common.payments[j];
+        let row = payments[j];
         let x = row.values;
-        let c = reckoning::fund(x, r, w, i, years, q);
+        let c = reckoning::fund(&x, r, w, i, years, q);
         let no = c.refusal;
         if no != 0 {
             return Coefficients {
@@ -251,24 +254,25 @@ fn form_at(plan: Plan, common: Common, i: [i64; 30]) -> FormAnswer
     requires { ⌜ Rates i ⌝ }
     ensures { λ s. ⌜ s ≡ formReckoned (numbers plan) (ratesOf i) ⌝ }
 {
-    let c = coefficients_of(plan, common, i);
-    let no = c.refusal;
-    if no != 0 {
-        return no_form(11);
-    }
+    let n = plan.instruments;
     let years = plan.years;
     let q = plan.terms;
     let r = common.rollover;
     let w = common.weights;
+    let payments = common.payments;
+    let c = coefficients_of(payments, &r, &w, &i, n, years, q);
+    let no = c.refusal;
+    if no != 0 {
+        return no_form(11);
+    }
     let o = common.outflow;
-    let d = reckoning::fund(o, r, w, i, years, q);
+    let d = reckoning::fund(&o, &r, &w, &i, years, q);
     let also = d.refusal;
     if also != 0 {
         return no_form(11);
     }
     let k = c.values;
     let p = plan.allocation;
-    let n = plan.instruments;
     let z = weighted(k, p, n);
     let constant = d.fund;
     FormAnswer {
@@ -317,7 +321,7 @@ pub fn fund(plan: Plan, t: usize) -> Reckoned
     let w = reckoning::weights(r, q);
     let i = rates_of(plan, t);
     let x = flow_of(plan);
-    reckoning::fund(x, r, w, i, years, q)
+    reckoning::fund(&x, &r, &w, &i, years, q)
 }
 
 // The bound B of pattern t, in amounts.
@@ -333,7 +337,7 @@ pub fn bound(plan: Plan, t: usize) -> BoundAnswer
     }
     let years = plan.years;
     let rates = rates_of(plan, t);
-    let b = reckoning::bound(rates, years);
+    let b = reckoning::bound(&rates, years);
     BoundAnswer {
         refusal: 0,
         bound: b,
@@ -444,35 +448,43 @@ fn refused_row() -> OneRow
     }
 }
 
-// What pattern t comes to: each of its flows is reckoned once.
-fn row_at(plan: Plan, common: Common, t: usize) -> OneRow
-    requires { ⌜ Accepted (numbers plan) ⌝ }
-    requires { ⌜ common ≡ commonOf (numbers plan) ⌝ }
-    requires { ⌜ 1 ≤ t ⌝ }
-    requires { ⌜ t ≤ plan .patterns ⌝ }
-    ensures { λ s. ⌜ s ≡ rowReckoned (numbers plan) t ⌝ }
+// What a pattern of the rates i comes to: each of its flows is reckoned once.
+fn row_at(
+    flow: &[i64; 30],
+    outflow: &[i64; 30],
+    payments: [Row; 16],
+    r: &[i64; 30],
+    w: &[i64; 30],
+    i: &[i64; 30],
+    n: usize,
+    years: usize,
+    q: usize,
+) -> OneRow
+    requires { ⌜ Ready q (now r) (now w) (now i) ⌝ }
+    requires { ⌜ Flows (now flow) (now outflow) n payments ⌝ }
+    requires { ⌜ Years years ⌝ }
+    ensures { λ s. ⌜ s ≡ rowAnswer (sharesOf (now (r .entry))) (ratesOf (now (i .entry))) years n (amountsOf (now (flow .entry))) (amountsOf (now (outflow .entry))) (flowsIn payments) ⌝ }
 {
-    let years = plan.years;
-    let q = plan.terms;
-    let x = common.flow;
-    let r = common.rollover;
-    let w = common.weights;
-    let pattern = rates_of(plan, t);
-    let c = reckoning::fund(x, r, w, pattern, years, q);
+    let c = reckoning::fund(flow, r, w, i, years, q);
     let no = c.refusal;
     if no != 0 {
         return refused_row();
     }
-    let f = form_at(plan, common, pattern);
+    let f = coefficients_of(payments, r, w, i, n, years, q);
     let also = f.refusal;
     if also != 0 {
         return refused_row();
     }
+    let d = reckoning::fund(outflow, r, w, i, years, q);
+    let too = d.refusal;
+    if too != 0 {
+        return refused_row();
+    }
     let z = c.fund;
-    let b = reckoning::bound(pattern, years);
+    let b = reckoning::bound(i, years);
     let word = word_of(z, b);
-    let k = f.coefficients;
-    let constant = f.constant;
+    let k = f.values;
+    let constant = d.fund;
     let row = PatternRow {
         word: word,
         fund: z,
@@ -493,10 +505,21 @@ fn rows_of(plan: Plan, common: Common) -> PatternRows
     ensures { λ s. ⌜ s ≡ rowsReckoned (numbers plan) ⌝ }
 {
     let m = plan.patterns;
+    let n = plan.instruments;
+    let years = plan.years;
+    let q = plan.terms;
+    let flow = common.flow;
+    let outflow = common.outflow;
+    let payments = common.payments;
+    let r = common.rollover;
+    let w = common.weights;
     let none = no_pattern();
     let mut rows = [none; 64];
     for t in 0..m {
-        let c = row_at(plan, common, t + 1);
+        let pattern = plan.pattern[t];
+        let xs = pattern.rates;
+        let i = widened(xs, years - 1);
+        let c = row_at(&flow, &outflow, payments, &r, &w, &i, n, years, q);
         let refusal = c.refusal;
         if refusal != 0 {
             return PatternRows {

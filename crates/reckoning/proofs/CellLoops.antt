@@ -1,29 +1,26 @@
 -- The loops of the cells and the fund: the state of each, its start, a turn, its end.
-use mathlib.Core.Path.{_≡_, refl, sym, ap, ap₂, _∙_}
+use mathlib.Core.Path.{_≡_, refl, sym, ap, ap₂, subst, _∙_}
 use mathlib.Core.Bool.{Bool, true, false}
 use mathlib.Core.List.{List}
-use mathlib.Core.Logic.{⊎-elim}
 use Prim.Native.Nat.{ℕ, suc, _+_, _*_, _-_, _≤_, _<_}
 use native.Mathlib.Omega.{arith}
-use lib.ListN.{getD, set, replicate, getD-replicate}
+use lib.ListN.{getD, set, replicate}
 use lib.IntN.{ℤ, pos, _+ℤ_, _-ℤ_, +ℤ-idr, +ℤ-assoc}
 use mir.Syntax.{w64}
 use mir.Val.{SFits}
 use Rattle.whole.specs.Range.{million, limit, Within}
 use Rattle.whole.specs.Floor.{shareOf}
 use Rattle.whole.specs.Sum.{sum}
-use Rattle.whole.specs.Test.{pick, both, all, isWithin}
+use Rattle.whole.specs.Test.{pick, both, isWithin}
 use Rattle.whole.specs.Table.{table}
 use Rattle.whole.proofs.Bridge.{whole, at, #, _⊖_}
-use Rattle.whole.proofs.Laws.{ℕ-cases}
 use Rattle.whole.proofs.Range.{within-add, within-pos, within-fits, whole64}
 use Rattle.whole.proofs.Floor.{share-within, share-none}
 use Rattle.whole.proofs.Sum.{sum-more, sum-cong, sum-zeros, sum-within}
-use Rattle.whole.proofs.Test.{both-second, both-not, picked-yes, picked-no, picked-is, all-none, all-more, all-fails, all-at, between-fact}
-use Rattle.whole.proofs.Table.{table-none, table-more, table-at, table-past, table-whole}
+use Rattle.whole.proofs.Test.{both-second, both-not, all-none, all-more, all-fails, all-at, between-fact}
+use Rattle.whole.proofs.Table.{table-none, table-more, table-at, table-whole}
 use Rattle.reckoning.specs.Reckoning.{w, sent, alpha, fund}
-use Rattle.reckoning.specs.Arrays.{sharesOf, ratesOf, amountsOf, weightsOf, Years, Terms, Amounts, Ready, Before, Invested, alphasOf, alphasFit, fundFits, cellsAnswer, fundAnswer}
-use Rattle.reckoning.specs.declared.Alphas.{Alphas}
+use Rattle.reckoning.specs.Arrays.{sharesOf, ratesOf, amountsOf, weightsOf, Years, Terms, Amounts, Ready, Before, Invested, alphasOf, alphasFit, fundFits, fundAnswer}
 use Rattle.reckoning.specs.declared.Reckoned.{Reckoned}
 use Rattle.reckoning.proofs.Recursion.{w-zero, w-suc, w-le, alpha-is, fund-is}
 use Rattle.reckoning.proofs.Pattern.{sent-within, shares-le, weight-none, sent-past, share-at, rate-at, amount-at, weight-at, weight-within, share-within-at, weight-past}
@@ -133,9 +130,6 @@ module _ (r i f : List ℤ) {n : ℕ} (years : Years n) where
   abbrev αs : ℕ → ℤ
   αs l = alpha (sharesOf r) (ratesOf i) (amountsOf f) (2 + l)
 
-  abbrev answer : Alphas
-  answer = cellsAnswer (sharesOf r) (ratesOf i) (amountsOf f) n
-
   pub fill-start : Filled r i f n 0 (replicate 30 (pos 0))
   unfolding alphasOf alphasFit
   fill-start = record { upto = omega arith; is = sym (table-none 30 αs (pos 0)); fit = all-none (λ l. isWithin limit (αs l)) }
@@ -152,33 +146,15 @@ module _ (r i f : List ℤ) {n : ℕ} (years : Years n) where
       fit = all-more j (λ l. isWithin limit (αs l)) (s .fit) (rw e at h);
     }
 
-    pub fill-refuse : isWithin limit z ≡ false → record { refusal = 11; values = replicate 30 (pos 0) } ≡ answer
-    unfolding cellsAnswer alphasFit
+    pub fill-refuse : isWithin limit z ≡ false → record { refusal = 11; fund = pos 0 } ≡ fundAnswer (sharesOf r) (ratesOf i) (amountsOf f) n
+    unfolding fundAnswer fundFits alphasFit
     fill-refuse h = rw (all-fails n (λ l. isWithin limit (αs l)) j b (rw e at h))
 
-  pub fill-end : {j : ℕ} {v : List ℤ} → n ≤ j → Filled r i f n j v → record { refusal = 0; values = v } ≡ answer
-  unfolding cellsAnswer
-  fill-end {j} l s = let e : j ≡ n = omega (arith, s .upto) in rw (s .is, e, rw e at (s .fit))
+  pub fill-end : {j : ℕ} {v : List ℤ} → n ≤ j → Filled r i f n j v → Filled r i f n n v
+  fill-end {j} {v} l s = let e : j ≡ n = omega (arith, s .upto) in subst (λ (j : ℕ). Filled r i f n j v) e s
 
--- ---- accepted or not, the cells of an answer are within the limit, and so is its fund
+-- ---- accepted or not, the fund of an answer is within the limit
 module _ (r : ℕ → ℕ) (i f : ℕ → ℤ) (N : ℕ) where
-  pub cells-within : N ≤ 30 → Amounts (cellsAnswer r i f N .values)
-  unfolding cellsAnswer alphasFit alphasOf
-  cells-within few = go (all N (λ l. isWithin limit (alpha r i f (2 + l)))) refl
-    where
-      zero-within : Within limit (pos 0)
-      zero-within = within-pos (omega arith)
-
-      go : (b : Bool) → all N (λ l. isWithin limit (alpha r i f (2 + l))) ≡ b →
-          Amounts (pick {A = Alphas} b (record { refusal = 0; values = table 30 N (λ l. alpha r i f (2 + l)) (pos 0) }) (record { refusal = 11; values = replicate 30 (pos 0) }) .values)
-      go true e = record {
-        amount = λ k l. ⊎-elim
-            (λ (h : k < N). rw (table-at 30 N (λ l. alpha r i f (2 + l)) (pos 0) (pos 0) k h few) (between-fact _ _ _ (all-at N (λ l. isWithin limit (alpha r i f (2 + l))) k h e)))
-            (λ (h : N ≤ k). rw (table-past 30 N (λ l. alpha r i f (2 + l)) (pos 0) (pos 0) k h l) zero-within)
-            (ℕ-cases k N);
-      }
-      go false e = record { amount = λ k l. rw (getD-replicate 30 k (pos 0) (pos 0) l) zero-within }
-
   pub fund-within : Within limit (fundAnswer r i f N .fund)
   unfolding fundAnswer fundFits
   fund-within = go (both (alphasFit r i f N) (isWithin limit (fund r i N f))) refl
@@ -216,25 +192,9 @@ module _ {q n : ℕ} {v u : List ℤ} (held : Invested q n v u) where
   pub total-end : {s : ℤ} {k : ℕ} → n ≤ k → Totalled v u n s k → s ≡ sum n (invested v u n)
   total-end {s} {k} l a = let e : k ≡ n = omega (arith, a .upto) in rw e at (a .is)
 
--- ---- the fund of a flow, from the answer of its cells
+-- ---- the fund of a flow, from its cells
 module _ (r : ℕ → ℕ) (i f : ℕ → ℤ) (N : ℕ) where
-  abbrev refused : Reckoned
-  refused = record { refusal = 11; fund = pos 0 }
-
-  module _ {a : Alphas} (e : a ≡ cellsAnswer r i f N) where
-    pub cells-refused : (a .refusal ≡ 0 → ⊥) → refused ≡ fundAnswer r i f N
-    unfolding cellsAnswer fundAnswer fundFits
-    cells-refused h = rw (picked-no (λ (a : Alphas). a .refusal) _ _ refl (λ z. omega arith) (alphasFit r i f N) a e h)
-
-    pub cells-fit : a .refusal ≡ 0 → alphasFit r i f N ≡ true
-    unfolding cellsAnswer
-    cells-fit h = picked-yes (λ (a : Alphas). a .refusal) _ _ refl (λ z. omega arith) (alphasFit r i f N) a e h
-
-    pub cells-are : a .refusal ≡ 0 → a .values ≡ alphasOf r i f N
-    unfolding cellsAnswer
-    cells-are h = ap (λ (a : Alphas). a .values) (picked-is (λ (a : Alphas). a .refusal) _ _ refl (λ z. omega arith) (alphasFit r i f N) a e h)
-
-  pub fund-refused : {s : ℤ} → s ≡ fund r i N f → isWithin limit s ≡ false → refused ≡ fundAnswer r i f N
+  pub fund-refused : {s : ℤ} → s ≡ fund r i N f → isWithin limit s ≡ false → record { refusal = 11; fund = pos 0 } ≡ fundAnswer r i f N
   unfolding fundAnswer fundFits
   fund-refused e h = rw (rw e at h, both-not (alphasFit r i f N))
 
@@ -242,25 +202,22 @@ module _ (r : ℕ → ℕ) (i f : ℕ → ℤ) (N : ℕ) where
   unfolding fundAnswer fundFits
   fund-accepted e a h = rw (a, rw e at h, e)
 
-module _ {q : ℕ} {r u i : List ℤ} (ready : Ready q r u i) (f : List ℤ) {v : List ℤ} {n : ℕ} (years : Years n)
-    (is : v ≡ alphasOf (sharesOf r) (ratesOf i) (amountsOf f) n)
-    (fit : alphasFit (sharesOf r) (ratesOf i) (amountsOf f) n ≡ true)
-  where
-    abbrev αₙ : ℕ → ℤ
-    αₙ l = alpha (sharesOf r) (ratesOf i) (amountsOf f) (2 + l)
+module _ {q : ℕ} {r u i : List ℤ} (ready : Ready q r u i) (f : List ℤ) {v : List ℤ} {n : ℕ} (years : Years n) (filled : Filled r i f n n v) where
+  abbrev αₙ : ℕ → ℤ
+  αₙ l = alpha (sharesOf r) (ratesOf i) (amountsOf f) (2 + l)
 
-    value-at : (k : ℕ) → k < n → getD v k (pos 0) ≡ αₙ k
-    unfolding alphasOf
-    value-at k l = rw is (table-at 30 n αₙ (pos 0) (pos 0) k l (years .few))
+  value-at : (k : ℕ) → k < n → getD v k (pos 0) ≡ αₙ k
+  unfolding alphasOf
+  value-at k l = rw (filled .is) (table-at 30 n αₙ (pos 0) (pos 0) k l (years .few))
 
-    pub held : Invested q n v u
-    unfolding alphasFit
-    held = record {
-      few = years .few;
-      cells = λ k l. rw (value-at k l) (between-fact _ _ (αₙ k) (all-at n (λ l. isWithin limit (αₙ l)) k l fit));
-      weights = weight-within ready;
-      none = weight-past ready;
-    }
+  pub held : Invested q n v u
+  unfolding alphasFit
+  held = record {
+    few = years .few;
+    cells = λ k l. rw (value-at k l) (between-fact _ _ (αₙ k) (all-at n (λ l. isWithin limit (αₙ l)) k l (filled .fit)));
+    weights = weight-within ready;
+    none = weight-past ready;
+  }
 
-    pub total-fund : sum n (invested v u n) ≡ fund (sharesOf r) (ratesOf i) n (amountsOf f)
-    total-fund = sum-cong n _ _ (λ k l. rw (value-at k l, weight-at ready (n - k - 1) (omega (arith, years .few)))) ∙ sym (fund-is (sharesOf r) (ratesOf i) n (amountsOf f))
+  pub total-fund : sum n (invested v u n) ≡ fund (sharesOf r) (ratesOf i) n (amountsOf f)
+  total-fund = sum-cong n _ _ (λ k l. rw (value-at k l, weight-at ready (n - k - 1) (omega (arith, years .few)))) ∙ sym (fund-is (sharesOf r) (ratesOf i) n (amountsOf f))

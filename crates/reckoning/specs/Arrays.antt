@@ -12,7 +12,6 @@ use Rattle.whole.specs.Table.{table}
 use Rattle.whole.specs.Entry.{nth}
 use Rattle.reckoning.specs.Reckoning.{w, alpha, fund}
 use Rattle.reckoning.specs.Gamma.{gamma}
-use Rattle.reckoning.specs.declared.Alphas.{Alphas}
 use Rattle.reckoning.specs.declared.Reckoned.{Reckoned}
 use Rattle.reckoning.specs.declared.Row.{Row}
 use Rattle.reckoning.specs.declared.GammaTable.{GammaTable}
@@ -78,18 +77,11 @@ module _ (r : ℕ → ℕ) (i : ℕ → ℤ) (f : ℕ → ℤ) where
   unfoldable pub fundFits : (N : ℕ) → Bool
   fundFits N = both (alphasFit N) (isWithin limit (fund r i N f))
 
-  module _ (N : ℕ) where
-    -- the cells, unless check 11 refuses one
-    unfoldable pub cellsAnswer : Alphas
-    cellsAnswer = pick (alphasFit N)
-        (record { refusal = 0; values = alphasOf N })
-        (record { refusal = 11; values = replicate 30 (pos 0) })
-
-    -- the fund, unless check 11 refuses it or a cell
-    unfoldable pub fundAnswer : Reckoned
-    fundAnswer = pick (fundFits N)
-        (record { refusal = 0; fund = fund r i N f })
-        (record { refusal = 11; fund = pos 0 })
+  -- the fund, unless check 11 refuses it or a cell
+  unfoldable pub fundAnswer : (N : ℕ) → Reckoned
+  fundAnswer N = pick (fundFits N)
+      (record { refusal = 0; fund = fund r i N f })
+      (record { refusal = 11; fund = pos 0 })
 
 -- cells within the limit, and weights of which none is left from w(q) on
 pub record Invested (q n : ℕ) (v u : List ℤ) : Type 0 where

@@ -1,4 +1,4 @@
-// One flow in one pattern, on arrays of thirty by value. Place 0 of an array of shares is r_1, of rates i_2, of a flow year 1,
+// One flow in one pattern, on arrays of thirty. Place 0 of an array of shares is r_1, of rates i_2, of a flow year 1,
 // of weights w(0), of cells alpha_2.
 ghost use mathlib.Core.Path.{_≡_};
 ghost use Prim.Native.Nat.{_+_, _-_, _≤_};
@@ -11,12 +11,7 @@ ghost use Rattle.whole.specs.Test.{all, isWithin};
 ghost use Rattle.whole.specs.Table.{table};
 ghost use Rattle.reckoning.specs.Reckoning.{sent as sentOf, alpha};
 ghost use Rattle.reckoning.specs.Bound.{h as largestOf, B};
-ghost use Rattle.reckoning.specs.Arrays.{sharesOf, ratesOf, amountsOf, Years, Terms, Rates, Amounts, Ready, weightsOf, Before, cellsAnswer, Invested, fundAnswer, Joins, RowsBefore, rowOf, gammasAnswer};
-
-pub struct Alphas {
-    pub refusal: u8,
-    pub values: [i64; 30],
-}
+ghost use Rattle.reckoning.specs.Arrays.{sharesOf, ratesOf, amountsOf, Years, Terms, Rates, Amounts, Ready, weightsOf, Before, Invested, fundAnswer, Joins, RowsBefore, rowOf, gammasAnswer};
 
 pub struct Reckoned {
     pub refusal: u8,
@@ -74,18 +69,18 @@ fn first(j: usize, q: usize) -> usize
 
 // Cell j, from its flow and the cells before it.
 fn cell(
-    flow: [i64; 30],
-    r: [i64; 30],
-    w: [i64; 30],
-    i: [i64; 30],
-    v: [i64; 30],
+    flow: &[i64; 30],
+    r: &[i64; 30],
+    w: &[i64; 30],
+    i: &[i64; 30],
+    v: &[i64; 30],
     j: usize,
     q: usize,
 ) -> i64
-    requires { ⌜ Ready q r w i ⌝ }
-    requires { ⌜ Amounts flow ⌝ }
-    requires { ⌜ Before (sharesOf r) (ratesOf i) (amountsOf flow) j v ⌝ }
-    ensures { λ s. ⌜ s ≡ alpha (sharesOf r) (ratesOf i) (amountsOf flow) (2 + j) ⌝ }
+    requires { ⌜ Ready q (now r) (now w) (now i) ⌝ }
+    requires { ⌜ Amounts (now flow) ⌝ }
+    requires { ⌜ Before (sharesOf (now r)) (ratesOf (now i)) (amountsOf (now flow)) j (now v) ⌝ }
+    ensures { λ s. ⌜ s ≡ alpha (sharesOf (now (r .entry))) (ratesOf (now (i .entry))) (amountsOf (now (flow .entry))) (2 + j) ⌝ }
 {
     let from = first(j, q);
     let mut s = flow[j];
@@ -110,42 +105,10 @@ fn fits(z: i64) -> bool
     true
 }
 
-// The cells of a flow over n years, unless check 11 refuses one.
-pub fn cells(
-    flow: [i64; 30],
-    r: [i64; 30],
-    w: [i64; 30],
-    i: [i64; 30],
-    n: usize,
-    q: usize,
-) -> Alphas
-    requires { ⌜ Ready q r w i ⌝ }
-    requires { ⌜ Amounts flow ⌝ }
-    requires { ⌜ Years n ⌝ }
-    ensures { λ s. ⌜ s ≡ cellsAnswer (sharesOf r) (ratesOf i) (amountsOf flow) n ⌝ }
-    ensures { λ s. ⌜ Amounts (s .values) ⌝ }
-{
-    let mut v = [0; 30];
-    for j in 0..n {
-        let s = cell(flow, r, w, i, v, j, q);
-        if !fits(s) {
-            return Alphas {
-                refusal: 11,
-                values: [0; 30],
-            };
-        }
-        v[j] = s;
-    }
-    Alphas {
-        refusal: 0,
-        values: v,
-    }
-}
-
 // What n cells still have invested at the horizon.
-fn total(v: [i64; 30], w: [i64; 30], n: usize, q: usize) -> i64
-    requires { ⌜ Invested q n v w ⌝ }
-    ensures { λ s. ⌜ s ≡ sum n (λ k. shareOf (getD v k (pos 0)) (getD w (n - k - 1) (pos 0))) ⌝ }
+fn total(v: &[i64; 30], w: &[i64; 30], n: usize, q: usize) -> i64
+    requires { ⌜ Invested q n (now v) (now w) ⌝ }
+    ensures { λ s. ⌜ s ≡ sum n (λ k. shareOf (getD (now (v .entry)) k (pos 0)) (getD (now (w .entry)) (n - k - 1) (pos 0))) ⌝ }
 {
     let from = first(n, q);
     let mut s: i64 = 0;
@@ -159,29 +122,31 @@ fn total(v: [i64; 30], w: [i64; 30], n: usize, q: usize) -> i64
 
 // The fund of a flow over n years, unless check 11 refuses it or a cell.
 pub fn fund(
-    flow: [i64; 30],
-    r: [i64; 30],
-    w: [i64; 30],
-    i: [i64; 30],
+    flow: &[i64; 30],
+    r: &[i64; 30],
+    w: &[i64; 30],
+    i: &[i64; 30],
     n: usize,
     q: usize,
 ) -> Reckoned
-    requires { ⌜ Ready q r w i ⌝ }
-    requires { ⌜ Amounts flow ⌝ }
+    requires { ⌜ Ready q (now r) (now w) (now i) ⌝ }
+    requires { ⌜ Amounts (now flow) ⌝ }
     requires { ⌜ Years n ⌝ }
-    ensures { λ s. ⌜ s ≡ fundAnswer (sharesOf r) (ratesOf i) (amountsOf flow) n ⌝ }
+    ensures { λ s. ⌜ s ≡ fundAnswer (sharesOf (now (r .entry))) (ratesOf (now (i .entry))) (amountsOf (now (flow .entry))) n ⌝ }
     ensures { λ s. ⌜ Within limit (s .fund) ⌝ }
 {
-    let c = cells(flow, r, w, i, n, q);
-    let refusal = c.refusal;
-    if refusal != 0 {
-        return Reckoned {
-            refusal: 11,
-            fund: 0,
-        };
+    let mut v = [0i64; 30];
+    for j in 0..n {
+        let x = cell(flow, r, w, i, &v, j, q);
+        if !fits(x) {
+            return Reckoned {
+                refusal: 11,
+                fund: 0,
+            };
+        }
+        v[j] = x;
     }
-    let v = c.values;
-    let s = total(v, w, n, q);
+    let s = total(&v, w, n, q);
     if !fits(s) {
         return Reckoned {
             refusal: 11,
@@ -205,10 +170,10 @@ fn size(x: i64) -> i64
 }
 
 // h: the largest of the rates i_2 to i_n, without their signs.
-fn largest(i: [i64; 30], n: usize) -> i64
-    requires { ⌜ Rates i ⌝ }
+fn largest(i: &[i64; 30], n: usize) -> i64
+    requires { ⌜ Rates (now i) ⌝ }
     requires { ⌜ Years n ⌝ }
-    ensures { λ s. ⌜ s ≡ pos (largestOf (ratesOf i) n) ⌝ }
+    ensures { λ s. ⌜ s ≡ pos (largestOf (ratesOf (now (i .entry))) n) ⌝ }
 {
     let last = n - 1;
     let mut most: i64 = 0;
@@ -222,10 +187,10 @@ fn largest(i: [i64; 30], n: usize) -> i64
 }
 
 // B of a pattern's rates over n years.
-pub fn bound(i: [i64; 30], n: usize) -> i64
-    requires { ⌜ Rates i ⌝ }
+pub fn bound(i: &[i64; 30], n: usize) -> i64
+    requires { ⌜ Rates (now i) ⌝ }
     requires { ⌜ Years n ⌝ }
-    ensures { λ s. ⌜ s ≡ pos (B (largestOf (ratesOf i) n) n) ⌝ }
+    ensures { λ s. ⌜ s ≡ pos (B (largestOf (ratesOf (now (i .entry))) n) n) ⌝ }
     ensures { λ s. ⌜ Between (pos 0) (pos 4_294_967_296) s ⌝ }
 {
     let h = largest(i, n);

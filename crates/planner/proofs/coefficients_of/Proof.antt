@@ -1,51 +1,50 @@
--- `planner::coefficients_of` fills in the fund of one instrument after the other, until check 11 refuses one (FormLoops, `Funded`).
-use mathlib.Core.Path.{_∙_}
+-- `planner::coefficients_of` fills in the fund of one row after the other, until check 11 refuses one (FormLoops, `Funded`).
 use Prim.Native.Nat.{_-_, _<_}
 use native.Mathlib.Omega.{arith}
 use borrow.Author.Needs.{needs}
 use mir.Syntax.{w64}
 use mir.Val.{SFits}
 use Rattle.whole.proofs.Range.{back}
-use Rattle.reckoning.specs.Arrays.{sharesOf, ratesOf, amountsOf}
-use Rattle.planner.proofs.Held.{years}
+use Rattle.reckoning.specs.Arrays.{sharesOf, ratesOf}
+use Rattle.planner.specs.Arrays.{flowsIn}
 use Rattle.planner.proofs.FormLoops.{Funded, funds-start, funds-turn, funds-refuse, funds-end}
-use Rattle.planner.proofs.Prepared.{paymentsIn, common-ready, payments-in, coefficients-is}
 use Rattle.planner.proofs.coefficients_of.Statement.{statement}
 use Rattle.planner.proofs.coefficients_of.Tie as tie
 
 abbrev Inv-loop : tie.InvT-loop
-Inv-loop i common n years q r w k₀ j₀ k j = Funded (sharesOf r) (ratesOf i) (λ j. amountsOf (paymentsIn common j)) years n k j
+Inv-loop r w i n years q payments k₀ j₀ k j = Funded (sharesOf r) (ratesOf i) (flowsIn payments) years n k j
 
 abbrev μ-loop : tie.MeasureT-loop
-μ-loop i common n years q r w k₀ j₀ k j = n - j
+μ-loop r w i n years q payments k₀ j₀ k j = n - j
 
 loop-holds : tie.Need-loop-holds Inv-loop μ-loop
 loop-holds c = funds-start _ _ _ _ _
 
 j-few : (c : tie.In-loop Inv-loop μ-loop) → c .before .loop .j < 16
-j-few c = omega (arith, c .before .before .before .before .pre .0 .head .instruments-few)
+j-few c = omega (arith, c .before .before .pre .1 .0 .few)
 
 mul-row : tie.Need-mul-row Inv-loop μ-loop
 mul-row c = omega (arith, j-few c)
 
-element-copy-out-row : tie.Need-element-copy-out-row Inv-loop μ-loop
-element-copy-out-row c = j-few c
+array-copy-out-row : tie.Need-array-copy-out-row Inv-loop μ-loop
+array-copy-out-row c = j-few c
 
 fund-requires : tie.Need-fund-requires Inv-loop μ-loop
 fund-requires c κs =
-    let s = c .before .before .before .before .before .before .pre in
-    (common-ready _ (s .0) (s .1 .0) (s .1 .1), (payments-in _ (s .0) (s .1 .0) _ (c .before .before .loop-test .taken), years _ (s .0)))
+    let o = c .before .before .before in
+    let s = o .before .before .pre in
+    (s .0, (s .1 .0 .amounts _ (o .loop-test .taken), s .1 .1))
 
 returns : tie.Need-returns Inv-loop μ-loop
 returns c =
-    let s = c .before .before .before .before .before .before .before .before .pre in
-    funds-refuse _ _ _ _ _ (c .before .before .before .before .loop-test .taken) (c .before .fund .ensures .0) (c .if1 .taken) ∙ coefficients-is _ (s .0) (s .1 .0) _
+    let o = c .before .before .before .before .before in
+    funds-refuse _ _ _ _ _ (o .loop-test .taken) (c .before .fund .ensures .0) (c .if1 .taken)
 
 mul-k : tie.Need-mul-k Inv-loop μ-loop
-mul-k c = omega (arith, j-few (c .before .before .before .before .before))
+mul-k c = omega (arith, j-few (c .before .before .before .before .before .before))
 
 array-set-from-k : tie.Need-array-set-from-k Inv-loop μ-loop
-array-set-from-k c = j-few (c .before .before .before .before .before)
+array-set-from-k c = j-few (c .before .before .before .before .before .before)
 
 add-j : tie.Need-add-j Inv-loop μ-loop
 add-j c = omega arith
@@ -56,14 +55,12 @@ loop-less c = omega arith
 loop-again : tie.Need-loop-again Inv-loop μ-loop
 loop-again c =
     let o = c .before .before in
-    let t = o .before .before .before in
+    let t = o .before .before .before .before in
     let f : SFits w64 (o .fund .result .fund) = search (needs, c .struct-told .given) in
-    simp back (funds-turn _ _ _ _ _ (t .loop-test .taken) (o .fund .ensures .0) (t .before .before .before .before .pre .0 .head .instruments-few) (t .before .loop .inv) (c .before .if1 .left))
+    simp back (funds-turn _ _ _ _ _ (t .loop-test .taken) (o .fund .ensures .0) (t .before .before .pre .1 .0 .few) (t .before .loop .inv) (c .before .if1 .left))
 
 returns-2 : tie.Need-returns-2 Inv-loop μ-loop
-returns-2 c =
-    let s = c .before .before .before .before .pre in
-    funds-end _ _ _ _ _ (c .loop-test .left) (c .before .loop .inv) ∙ coefficients-is _ (s .0) (s .1 .0) _
+returns-2 c = funds-end _ _ _ _ _ (c .loop-test .left) (c .before .loop .inv)
 
 pub coefficients-of-spec : {M : Type 1} → statement M
 coefficients-of-spec =
@@ -73,7 +70,7 @@ coefficients-of-spec =
     μ-loop
     loop-holds
     mul-row
-    element-copy-out-row
+    array-copy-out-row
     fund-requires
     returns
     mul-k

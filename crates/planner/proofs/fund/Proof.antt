@@ -37,18 +37,30 @@ rates-of-requires c κs = let o = ok (c .before .before) in (o .plan-ok, (o .som
 flow-of-requires : tie.Need-flow-of-requires
 flow-of-requires c κs = ok (c .before .before .before) .plan-ok
 
+-- the arrays, prepared
+module _ (c : tie.After-i) where
+  abbrev flowed : tie.After-flow-of
+  flowed = c .before .before .before .before
+
+  abbrev rated : tie.After-rates-of
+  rated = flowed .before
+
+  abbrev rolled : tie.After-rollover-of
+  rolled = rated .before .before
+
 fund-requires : tie.Need-fund-requires
 fund-requires c κs =
-    let o = ok (c .before .before .before .before) in
-    let i = pattern-rates _ _ o (c .before .rates-of .ensures) in
-    (ready _ (o .plan-ok) (c .before .before .before .rollover-of .ensures) (c .before .before .weights .ensures) i, (rw (c .flow-of .ensures) (flow-amounts _ (o .plan-ok)), years _ (o .plan-ok)))
+    let o = ok (rolled c .before) in
+    let i = pattern-rates _ _ o (rated c .rates-of .ensures) in
+    (ready _ (o .plan-ok) (rolled c .rollover-of .ensures) (rated c .before .weights .ensures) i, (rw (flowed c .flow-of .ensures) (flow-amounts _ (o .plan-ok)), years _ (o .plan-ok)))
 
 returns-2 : tie.Need-returns-2
 unfolding fundAnswer
 returns-2 c =
-    let e = c .before .before .before .before .before in
+    let p = c .before in
+    let e = rolled p .before in
     fund-answered _ _ (out-accepted noFund (none e)
-    (c .fund .ensures .0 ∙ fund-is _ _ (ok e) (c .before .before .rates-of .ensures) (c .before .before .before .before .rollover-of .ensures) (c .before .flow-of .ensures)))
+    (c .fund .ensures .0 ∙ fund-is _ _ (ok e) (rated p .rates-of .ensures) (rolled p .rollover-of .ensures) (flowed p .flow-of .ensures)))
 
 pub fund-spec : {M : Type 1} → statement M
 fund-spec =

@@ -1,13 +1,10 @@
 -- `planner::rates_of` takes the first N - 1 rates of the pattern, which are i_2 to i_N.
-use mathlib.Core.Path.{_≡_, sym, ap, _∙_}
-use Prim.Native.Nat.{ℕ, _+_, _-_}
+use mathlib.Core.Path.{_≡_, ap, _∙_}
+use Prim.Native.Nat.{_+_, _-_}
 use native.Mathlib.Omega.{arith}
 use borrow.Author.Needs.{needs}
-use lib.IntN.{pos}
-use Rattle.whole.proofs.Table.{table-cong}
-use Rattle.plan.specs.Numbers.{numbers}
-use Rattle.plan.proofs.Numbers.{rate-is}
 use Rattle.planner.specs.Arrays.{ratesArray}
+use Rattle.planner.proofs.Held.{rates-array}
 use Rattle.planner.proofs.rates_of.Statement.{statement}
 use Rattle.planner.proofs.rates_of.Tie as tie
 
@@ -27,13 +24,11 @@ widened-requires : tie.Need-widened-requires
 widened-requires c κs = search needs
 
 returns : tie.Need-returns
-unfolding ratesArray
 returns c =
     let s = c .before .before .before in
-    let plan = s .args .t1 in
     let t = s .args .t in
     let e : 1 + (t - 1) ≡ t = omega arith in
-    c .widened .ensures ∙ table-cong 30 (plan .years - 1) _ _ (pos 0) (λ l h. sym (rate-is plan (t - 1) l (omega arith) h) ∙ ap (λ (t : ℕ). numbers plan .i t (2 + l)) e)
+    c .widened .ensures ∙ rates-array (s .args .t1) (s .pre .0) (t - 1) (omega arith) ∙ ap (ratesArray _) e
 
 pub rates-of-spec : {M : Type 1} → statement M
 rates-of-spec =

@@ -16,10 +16,10 @@ use Rattle.reckoning.proofs.bound.Statement.{statement}
 use Rattle.reckoning.proofs.bound.Tie as tie
 
 abbrev Inv-loop : tie.InvT-loop
-Inv-loop n h g₀ k₀ k-end g k = Growing (toZ w64 h) n (toZ w64 g) k
+Inv-loop i n h g₀ k₀ k-end g k = Growing (toZ w64 h) n (toZ w64 g) k
 
 abbrev μ-loop : tie.MeasureT-loop
-μ-loop n h g₀ k₀ k-end g k = n + 2 - k
+μ-loop i n h g₀ k₀ k-end g k = n + 2 - k
 
 largest-requires : tie.Need-largest-requires Inv-loop μ-loop
 largest-requires c κs = search needs
@@ -30,7 +30,7 @@ add-k-end c = omega arith
 -- the largest rate
 module _ (c : tie.After-largest Inv-loop μ-loop) where
   abbrev most : ℕ
-  most = largestOf (ratesOf (c .before .args .i)) (c .before .args .n)
+  most = largestOf (ratesOf (c .before .args .i .now)) (c .before .args .n)
 
   most-is : toZ w64 (ofZ w64 (c .largest .result)) ≡ pos most
   most-is = simp (back, ok64 (c .largest .result) (c .largest .ok)) (c .largest .ensures)

@@ -15,10 +15,10 @@ use Rattle.reckoning.proofs.cell.Statement.{statement}
 use Rattle.reckoning.proofs.cell.Tie as tie
 
 abbrev Inv-loop : tie.InvT-loop
-Inv-loop j q r w i v from s₀ l₀ s l = Adding r w i v j (toZ w64 s₀) (toZ w64 s) l
+Inv-loop flow r w i v j q from s₀ l₀ s l = Adding r w i v j (toZ w64 s₀) (toZ w64 s) l
 
 abbrev μ-loop : tie.MeasureT-loop
-μ-loop j q r w i v from s₀ l₀ s l = j - l
+μ-loop flow r w i v j q from s₀ l₀ s l = j - l
 
 first-requires : tie.Need-first-requires Inv-loop μ-loop
 first-requires c κs = search needs
@@ -26,17 +26,17 @@ first-requires c κs = search needs
 mul-s : tie.Need-mul-s Inv-loop μ-loop
 mul-s c = omega (arith, c .before .pre .1 .1 .few)
 
-array-copy-out-s : tie.Need-array-copy-out-s Inv-loop μ-loop
-array-copy-out-s c = omega (arith, c .before .pre .1 .1 .few)
+element-copy-out-s : tie.Need-element-copy-out-s Inv-loop μ-loop
+element-copy-out-s c = omega (arith, c .before .pre .1 .1 .few)
 
-flow-fits : (c : tie.Start Inv-loop μ-loop) → SFits w64 (getD (c .args .t1) (c .args .j) (pos 0))
+flow-fits : (c : tie.Start Inv-loop μ-loop) → SFits w64 (getD (c .args .flow .now) (c .args .j) (pos 0))
 flow-fits c = within-fits (omega arith) (c .pre .1 .0 .amount (c .args .j) (c .pre .1 .1 .few))
 
 loop-holds : tie.Need-loop-holds Inv-loop μ-loop
 loop-holds c =
     let s = c .before .before in
     simp (back, flow-fits s)
-    (subst (λ (l : ℕ). Adding (s .args .t2) (s .args .t3) (s .args .t4) (s .args .t5) (s .args .j) (getD (s .args .t1) (s .args .j) (pos 0)) (getD (s .args .t1) (s .args .j) (pos 0)) l) (sym (c .before .first .ensures))
+    (subst (λ (l : ℕ). Adding (s .args .r .now) (s .args .w .now) (s .args .i .now) (s .args .v .now) (s .args .j) (getD (s .args .flow .now) (s .args .j) (pos 0)) (getD (s .args .flow .now) (s .args .j) (pos 0)) l) (sym (c .before .first .ensures))
     (add-start (s .pre .0) (s .pre .1 .0) (s .pre .1 .1)))
 
 sub-years : tie.Need-sub-years Inv-loop μ-loop
@@ -62,53 +62,53 @@ module _ (c : tie.In-loop Inv-loop μ-loop) where
   d-few : d < 30
   d-few = let f = start .pre .1 .1 .few in omega arith
 
-  x-within : Within limit (getD (start .args .t5) l (pos 0))
+  x-within : Within limit (getD (start .args .v .now) l (pos 0))
   x-within = cell-within (start .pre .0) (start .pre .1 .0) (start .pre .1 .1) l (c .loop-test .taken)
 
-  r-within : Within million (getD (start .args .t2) d (pos 0))
+  r-within : Within million (getD (start .args .r .now) d (pos 0))
   r-within = share-within-at (start .pre .0) d d-few
 
-  w-within : Within million (getD (start .args .t3) d (pos 0))
+  w-within : Within million (getD (start .args .w .now) d (pos 0))
   w-within = weight-within (start .pre .0) d d-few
 
-  i-within : Within million (getD (start .args .t4) l (pos 0))
+  i-within : Within million (getD (start .args .i .now) l (pos 0))
   i-within = start .pre .0 .rates .rate l l-few
 
-  x-fits : SFits w64 (getD (start .args .t5) l (pos 0))
+  x-fits : SFits w64 (getD (start .args .v .now) l (pos 0))
   x-fits = within-fits (omega arith) x-within
 
-  r-fits : SFits w64 (getD (start .args .t2) d (pos 0))
+  r-fits : SFits w64 (getD (start .args .r .now) d (pos 0))
   r-fits = within-fits (omega arith) r-within
 
-  w-fits : SFits w64 (getD (start .args .t3) d (pos 0))
+  w-fits : SFits w64 (getD (start .args .w .now) d (pos 0))
   w-fits = within-fits (omega arith) w-within
 
-  i-fits : SFits w64 (getD (start .args .t4) l (pos 0))
+  i-fits : SFits w64 (getD (start .args .i .now) l (pos 0))
   i-fits = within-fits (omega arith) i-within
 
 mul-sent : tie.Need-mul-sent Inv-loop μ-loop
 mul-sent c = omega (arith, l-few c)
 
-array-copy-out-sent : tie.Need-array-copy-out-sent Inv-loop μ-loop
-array-copy-out-sent c = omega (arith, l-few c)
+element-copy-out-sent : tie.Need-element-copy-out-sent Inv-loop μ-loop
+element-copy-out-sent c = omega (arith, l-few c)
 
 mul-sent-2 : tie.Need-mul-sent-2 Inv-loop μ-loop
 mul-sent-2 c = omega (arith, d-few (c .before))
 
-array-copy-out-sent-2 : tie.Need-array-copy-out-sent-2 Inv-loop μ-loop
-array-copy-out-sent-2 c = omega (arith, d-few (c .before))
+element-copy-out-sent-2 : tie.Need-element-copy-out-sent-2 Inv-loop μ-loop
+element-copy-out-sent-2 c = omega (arith, d-few (c .before))
 
 mul-sent-3 : tie.Need-mul-sent-3 Inv-loop μ-loop
 mul-sent-3 c = omega (arith, d-few (c .before .before))
 
-array-copy-out-sent-3 : tie.Need-array-copy-out-sent-3 Inv-loop μ-loop
-array-copy-out-sent-3 c = omega (arith, d-few (c .before .before))
+element-copy-out-sent-3 : tie.Need-element-copy-out-sent-3 Inv-loop μ-loop
+element-copy-out-sent-3 c = omega (arith, d-few (c .before .before))
 
 mul-sent-4 : tie.Need-mul-sent-4 Inv-loop μ-loop
 mul-sent-4 c = omega (arith, l-few (c .before .before .before))
 
-array-copy-out-sent-4 : tie.Need-array-copy-out-sent-4 Inv-loop μ-loop
-array-copy-out-sent-4 c = omega (arith, l-few (c .before .before .before))
+element-copy-out-sent-4 : tie.Need-element-copy-out-sent-4 Inv-loop μ-loop
+element-copy-out-sent-4 c = omega (arith, l-few (c .before .before .before))
 
 sent-requires : tie.Need-sent-requires Inv-loop μ-loop
 sent-requires c κs =
@@ -123,10 +123,10 @@ module _ (c : tie.After-sent Inv-loop μ-loop) where
   t-fits : SFits w64 (c .sent .result)
   t-fits = ok64 (c .sent .result) (c .sent .ok)
 
-  t-is : c .sent .result ≡ sends (start o .args .t2) (start o .args .t3) (start o .args .t4) (start o .args .t5) (start o .args .j) (l o)
+  t-is : c .sent .result ≡ sends (start o .args .r .now) (start o .args .w .now) (start o .args .i .now) (start o .args .v .now) (start o .args .j) (l o)
   t-is = simp (back, x-fits o, r-fits o, w-fits o, i-fits o) at (c .sent .ensures)
 
-  so-far : Adding (start o .args .t2) (start o .args .t3) (start o .args .t4) (start o .args .t5) (start o .args .j) (getD (start o .args .t1) (start o .args .j) (pos 0)) (toZ w64 (o .before .loop .s)) (l o)
+  so-far : Adding (start o .args .r .now) (start o .args .w .now) (start o .args .i .now) (start o .args .v .now) (start o .args .j) (getD (start o .args .flow .now) (start o .args .j) (pos 0)) (toZ w64 (o .before .loop .s)) (l o)
   so-far = simp (back, flow-fits (start o)) at (o .before .loop .inv)
 
   s-fits : SFits w64 (toZ w64 (o .before .loop .s) +ℤ c .sent .result)
@@ -159,18 +159,18 @@ cell-spec =
     μ-loop
     first-requires
     mul-s
-    array-copy-out-s
+    element-copy-out-s
     loop-holds
     sub-years
     sub-d
     mul-sent
-    array-copy-out-sent
+    element-copy-out-sent
     mul-sent-2
-    array-copy-out-sent-2
+    element-copy-out-sent-2
     mul-sent-3
-    array-copy-out-sent-3
+    element-copy-out-sent-3
     mul-sent-4
-    array-copy-out-sent-4
+    element-copy-out-sent-4
     sent-requires
     add-s
     add-l

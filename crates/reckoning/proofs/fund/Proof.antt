@@ -1,7 +1,8 @@
--- `reckoning::fund`: the cells, what they still have invested at the horizon, and check 11 on both.
+-- `reckoning::fund` fills in cell after cell, each from those before it, until one is outside the limit (CellLoops, `Filled`); then
+-- what they still have invested at the horizon is the fund.
 use mathlib.Core.Path.{_≡_, sym, subst, _∙_}
-use mathlib.Core.Bool.{true}
-use Prim.Native.Nat.{ℕ}
+use Prim.Native.Nat.{ℕ, _-_, _<_}
+use native.Mathlib.Omega.{arith}
 use borrow.Author.Needs.{needs}
 use borrow.Author.Tests.{not-true, not-false}
 use lib.IntN.{ℤ}
@@ -11,75 +12,136 @@ use Rattle.whole.specs.Range.{limit, Within}
 use Rattle.whole.specs.Test.{isWithin}
 use Rattle.whole.proofs.Range.{back, ok64}
 use Rattle.reckoning.specs.Reckoning.{fund}
-use Rattle.reckoning.specs.Arrays.{sharesOf, ratesOf, amountsOf, alphasFit, fundAnswer}
+use Rattle.reckoning.specs.Arrays.{sharesOf, ratesOf, amountsOf, fundAnswer}
 use Rattle.reckoning.specs.declared.Reckoned.{Reckoned}
-use Rattle.reckoning.proofs.CellLoops.{fund-within, cells-refused, cells-fit, cells-are, fund-refused, fund-accepted, held, total-fund}
+use Rattle.reckoning.proofs.CellLoops.{Filled, fill-start, fill-before, fill-turn, fill-refuse, fill-end, fund-within, fund-refused, fund-accepted, held, total-fund}
 use Rattle.reckoning.proofs.fund.Statement.{statement}
 use Rattle.reckoning.proofs.fund.Tie as tie
 
+abbrev Inv-loop : tie.InvT-loop
+Inv-loop flow r w i n q v₀ j₀ v j = Filled r i flow n j v
+
+abbrev μ-loop : tie.MeasureT-loop
+μ-loop flow r w i n q v₀ j₀ v j = n - j
+
 -- the pattern and the flow, by the papers' index
-module _ (c : tie.Start) where
+module _ (c : tie.Start Inv-loop μ-loop) where
   abbrev r : ℕ → ℕ
-  r = sharesOf (c .args .r)
+  r = sharesOf (c .args .r .now)
 
   abbrev i : ℕ → ℤ
-  i = ratesOf (c .args .i)
+  i = ratesOf (c .args .i .now)
 
   abbrev f : ℕ → ℤ
-  f = amountsOf (c .args .flow)
+  f = amountsOf (c .args .flow .now)
 
   -- the equation, and with it the range of the fund
   answered : {s : Reckoned} → s ≡ fundAnswer r i f (c .args .n) → (s ≡ fundAnswer r i f (c .args .n)) × Within limit (s .fund)
   answered e = (e, subst (λ (s : Reckoned). Within limit (s .fund)) (sym e) (fund-within r i f (c .args .n)))
 
-cells-requires : tie.Need-cells-requires
-cells-requires c κs = search needs
+loop-holds : tie.Need-loop-holds Inv-loop μ-loop
+loop-holds c = fill-start _ _ _ (c .pre .1 .1)
 
-returns : tie.Need-returns
-returns c = let s = c .before .before in answered s (cells-refused (r s) (i s) (f s) (s .args .n) (c .before .cells .ensures .0) (c .if1 .taken))
+cell-requires : tie.Need-cell-requires Inv-loop μ-loop
+cell-requires c κs = let s = c .before .before .before in (s .pre .0, (s .pre .1 .0, fill-before _ _ _ (s .pre .1 .1) (c .before .loop-test .taken) (c .before .before .loop .inv)))
 
-total-requires : tie.Need-total-requires
-total-requires c κs =
-    let s = c .before .before .before in
-    let e = c .before .before .cells .ensures .0 in
-    let z = c .before .if1 .left in
-    held (s .pre .0) (s .args .flow) (s .pre .1 .1) (cells-are (r s) (i s) (f s) (s .args .n) e z) (cells-fit (r s) (i s) (f s) (s .args .n) e z)
-
-fits-requires : tie.Need-fits-requires
+fits-requires : tie.Need-fits-requires Inv-loop μ-loop
 fits-requires c κs = search needs
 
+-- the test of the next cell
+module _ (c : tie.After-fits2 Inv-loop μ-loop) where
+  abbrev turn : tie.In-loop Inv-loop μ-loop
+  turn = c .before .before .before
+
+  abbrev start : tie.Start Inv-loop μ-loop
+  start = turn .before .before
+
+  cell-fits : SFits w64 (c .before .cell .result)
+  cell-fits = ok64 (c .before .cell .result) (c .before .cell .ok)
+
+  cell-test : c .fits2 .result ≡ isWithin limit (c .before .cell .result)
+  cell-test = let z = cell-fits in simp back at (c .fits2 .ensures)
+
+  j-few : turn .before .loop .j < 30
+  j-few = let f = start .pre .1 .1 .few in let t = turn .loop-test .taken in omega arith
+
+returns : tie.Need-returns Inv-loop μ-loop
+returns c =
+    let o = c .before in
+    answered (start o) (fill-refuse _ _ _ (start o .pre .1 .1) (turn o .loop-test .taken) (turn o .before .loop .inv) (o .before .cell .ensures) (sym (cell-test o) ∙ not-true _ (c .if1 .taken)))
+
+mul-v : tie.Need-mul-v Inv-loop μ-loop
+mul-v c = omega (arith, j-few (c .before))
+
+array-set-from-v : tie.Need-array-set-from-v Inv-loop μ-loop
+array-set-from-v c = j-few (c .before)
+
+add-j : tie.Need-add-j Inv-loop μ-loop
+add-j c = omega arith
+
+loop-less : tie.Need-loop-less Inv-loop μ-loop
+loop-less c = omega arith
+
+loop-again : tie.Need-loop-again Inv-loop μ-loop
+loop-again c =
+    let o = c .before in
+    simp (back, cell-fits o) (fill-turn _ _ _ (start o .pre .1 .1) (turn o .loop-test .taken) (turn o .before .loop .inv) (o .before .cell .ensures) (sym (cell-test o) ∙ not-false _ (c .if1 .left)))
+
+-- every cell is filled in
+filled : (c : tie.After-loop Inv-loop μ-loop) → Filled (c .before .before .args .r .now) (c .before .before .args .i .now) (c .before .before .args .flow .now) (c .before .before .args .n) (c .before .before .args .n) (c .before .loop .v)
+filled c = fill-end _ _ _ (c .before .before .pre .1 .1) (c .loop-test .left) (c .before .loop .inv)
+
+total-requires : tie.Need-total-requires Inv-loop μ-loop
+total-requires c κs = let s = c .before .before .before in held (s .pre .0) _ (s .pre .1 .1) (filled (c .before))
+
+fits-requires-2 : tie.Need-fits-requires-2 Inv-loop μ-loop
+fits-requires-2 c κs = search needs
+
 -- the total is the fund, and its test
-module _ (c : tie.After-fits2) where
-  abbrev start : tie.Start
-  start = c .before .before .before .before .before
+module _ (c : tie.After-fits3 Inv-loop μ-loop) where
+  abbrev ended : tie.After-loop Inv-loop μ-loop
+  ended = c .before .before .before
 
-  fit : alphasFit (r start) (i start) (f start) (start .args .n) ≡ true
-  fit = cells-fit (r start) (i start) (f start) (start .args .n) (c .before .before .before .before .cells .ensures .0) (c .before .before .before .if1 .left)
+  abbrev began : tie.Start Inv-loop μ-loop
+  began = ended .before .before
 
-  s-is : c .before .total .result ≡ fund (r start) (i start) (start .args .n) (f start)
-  s-is =
-      let e = c .before .before .before .before .cells .ensures .0 in
-      let z = c .before .before .before .if1 .left in
-      c .before .total .ensures ∙ total-fund (start .pre .0) (start .args .flow) (start .pre .1 .1) (cells-are (r start) (i start) (f start) (start .args .n) e z) fit
+  fund-is : c .before .total .result ≡ fund (r began) (i began) (began .args .n) (f began)
+  fund-is = c .before .total .ensures ∙ total-fund (began .pre .0) _ (began .pre .1 .1) (filled ended)
 
-  s-fits : SFits w64 (c .before .total .result)
-  s-fits = ok64 (c .before .total .result) (c .before .total .ok)
+  fund-fits : SFits w64 (c .before .total .result)
+  fund-fits = ok64 (c .before .total .result) (c .before .total .ok)
 
-  test-is : c .fits2 .result ≡ isWithin limit (c .before .total .result)
-  test-is = let z = s-fits in simp back at (c .fits2 .ensures)
+  fund-test : c .fits3 .result ≡ isWithin limit (c .before .total .result)
+  fund-test = let z = fund-fits in simp back at (c .fits3 .ensures)
 
-returns-2 : tie.Need-returns-2
+returns-2 : tie.Need-returns-2 Inv-loop μ-loop
 returns-2 c =
     let o = c .before in
-    let s = start o in
-    answered s (fund-refused (r s) (i s) (f s) (s .args .n) (s-is o) (sym (test-is o) ∙ not-true _ (c .if2 .taken)))
+    let s = began o in
+    answered s (fund-refused (r s) (i s) (f s) (s .args .n) (fund-is o) (sym (fund-test o) ∙ not-true _ (c .if2 .taken)))
 
-returns-3 : tie.Need-returns-3
+returns-3 : tie.Need-returns-3 Inv-loop μ-loop
 returns-3 c =
     let o = c .before in
-    let s = start o in
-    simp (back, s-fits o) (answered s (fund-accepted (r s) (i s) (f s) (s .args .n) (s-is o) (fit o) (sym (test-is o) ∙ not-false _ (c .if2 .left))))
+    let s = began o in
+    simp (back, fund-fits o) (answered s (fund-accepted (r s) (i s) (f s) (s .args .n) (fund-is o) (filled (ended o) .fit) (sym (fund-test o) ∙ not-false _ (c .if2 .left))))
 
 pub fund-spec : {M : Type 1} → statement M
 fund-spec =
-    tie.close (tie.spec cells-requires returns total-requires fits-requires returns-2 returns-3)
+    tie.close
+    (tie.spec
+    Inv-loop
+    μ-loop
+    loop-holds
+    cell-requires
+    fits-requires
+    returns
+    mul-v
+    array-set-from-v
+    add-j
+    loop-less
+    loop-again
+    total-requires
+    fits-requires-2
+    returns-2
+    returns-3)

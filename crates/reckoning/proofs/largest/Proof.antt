@@ -15,10 +15,10 @@ use Rattle.reckoning.proofs.largest.Statement.{statement}
 use Rattle.reckoning.proofs.largest.Tie as tie
 
 abbrev Inv-loop : tie.InvT-loop
-Inv-loop n i last most₀ l₀ most l = Searched i last (toZ w64 most) l
+Inv-loop i n last most₀ l₀ most l = Searched i last (toZ w64 most) l
 
 abbrev μ-loop : tie.MeasureT-loop
-μ-loop n i last most₀ l₀ most l = last - l
+μ-loop i n last most₀ l₀ most l = last - l
 
 sub-last : tie.Need-sub-last Inv-loop μ-loop
 sub-last c = omega arith
@@ -29,15 +29,15 @@ loop-holds c = search-start _ _
 mul-size : tie.Need-mul-size Inv-loop μ-loop
 mul-size c = omega arith
 
-array-copy-out-size : tie.Need-array-copy-out-size Inv-loop μ-loop
-array-copy-out-size c = omega arith
+element-copy-out-size : tie.Need-element-copy-out-size Inv-loop μ-loop
+element-copy-out-size c = omega arith
 
 -- a rate, and that it fits
 module _ (c : tie.In-loop Inv-loop μ-loop) where
-  rate-within : Within million (getD (c .before .before .args .t1) (c .before .loop .l) (pos 0))
+  rate-within : Within million (getD (c .before .before .args .i .now) (c .before .loop .l) (pos 0))
   rate-within = c .before .before .pre .0 .rate _ (omega arith)
 
-  rate-fits : SFits w64 (getD (c .before .before .args .t1) (c .before .loop .l) (pos 0))
+  rate-fits : SFits w64 (getD (c .before .before .args .i .now) (c .before .loop .l) (pos 0))
   rate-fits = within-fits (omega arith) rate-within
 
 size-requires : tie.Need-size-requires Inv-loop μ-loop
@@ -45,7 +45,7 @@ size-requires c κs = simp (back, rate-fits (c .before)) (rate-within (c .before
 
 -- its size
 module _ (c : tie.After-size Inv-loop μ-loop) where
-  size-is : c .size .result ≡ pos (natAbs (getD (c .before .before .before .before .args .t1) (c .before .before .before .loop .l) (pos 0)))
+  size-is : c .size .result ≡ pos (natAbs (getD (c .before .before .before .before .args .i .now) (c .before .before .before .loop .l) (pos 0)))
   size-is = simp (back, rate-fits (c .before .before)) at (c .size .ensures)
 
   size-fits : SFits w64 (c .size .result)
@@ -77,7 +77,7 @@ largest-spec =
     sub-last
     loop-holds
     mul-size
-    array-copy-out-size
+    element-copy-out-size
     size-requires
     add-l
     loop-less

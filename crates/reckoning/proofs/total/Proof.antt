@@ -14,10 +14,10 @@ use Rattle.reckoning.proofs.total.Statement.{statement}
 use Rattle.reckoning.proofs.total.Tie as tie
 
 abbrev Inv-loop : tie.InvT-loop
-Inv-loop n q v w from s₀ k₀ s k = Totalled v w n (toZ w64 s) k
+Inv-loop v w n q from s₀ k₀ s k = Totalled v w n (toZ w64 s) k
 
 abbrev μ-loop : tie.MeasureT-loop
-μ-loop n q v w from s₀ k₀ s k = n - k
+μ-loop v w n q from s₀ k₀ s k = n - k
 
 first-requires : tie.Need-first-requires Inv-loop μ-loop
 first-requires c κs = search needs
@@ -25,7 +25,7 @@ first-requires c κs = search needs
 loop-holds : tie.Need-loop-holds Inv-loop μ-loop
 loop-holds c =
     let s = c .before in
-    subst (λ (k : ℕ). Totalled (s .args .t1) (s .args .t2) (s .args .n) (pos 0) k) (sym (c .first .ensures)) (total-start (s .pre))
+    subst (λ (k : ℕ). Totalled (s .args .v .now) (s .args .w .now) (s .args .n) (pos 0) k) (sym (c .first .ensures)) (total-start (s .pre))
 
 sub-years : tie.Need-sub-years Inv-loop μ-loop
 sub-years c = omega arith
@@ -50,29 +50,29 @@ module _ (c : tie.In-loop Inv-loop μ-loop) where
   d-few : d < 30
   d-few = let f = start .pre .few in omega arith
 
-  x-within : Within limit (getD (start .args .t1) k (pos 0))
+  x-within : Within limit (getD (start .args .v .now) k (pos 0))
   x-within = start .pre .cells k (c .loop-test .taken)
 
-  w-within : Within million (getD (start .args .t2) d (pos 0))
+  w-within : Within million (getD (start .args .w .now) d (pos 0))
   w-within = start .pre .weights d d-few
 
-  x-fits : SFits w64 (getD (start .args .t1) k (pos 0))
+  x-fits : SFits w64 (getD (start .args .v .now) k (pos 0))
   x-fits = within-fits (omega arith) x-within
 
-  w-fits : SFits w64 (getD (start .args .t2) d (pos 0))
+  w-fits : SFits w64 (getD (start .args .w .now) d (pos 0))
   w-fits = within-fits (omega arith) w-within
 
 mul-share : tie.Need-mul-share Inv-loop μ-loop
 mul-share c = omega (arith, k-few c)
 
-array-copy-out-share : tie.Need-array-copy-out-share Inv-loop μ-loop
-array-copy-out-share c = omega (arith, k-few c)
+element-copy-out-share : tie.Need-element-copy-out-share Inv-loop μ-loop
+element-copy-out-share c = omega (arith, k-few c)
 
 mul-share-2 : tie.Need-mul-share-2 Inv-loop μ-loop
 mul-share-2 c = omega (arith, d-few (c .before))
 
-array-copy-out-share-2 : tie.Need-array-copy-out-share-2 Inv-loop μ-loop
-array-copy-out-share-2 c = omega (arith, d-few (c .before))
+element-copy-out-share-2 : tie.Need-element-copy-out-share-2 Inv-loop μ-loop
+element-copy-out-share-2 c = omega (arith, d-few (c .before))
 
 share-requires : tie.Need-share-requires Inv-loop μ-loop
 share-requires c κs = let o = c .before .before in simp (back, x-fits o, w-fits o) (x-within o, w-within o)
@@ -85,7 +85,7 @@ module _ (c : tie.After-share Inv-loop μ-loop) where
   t-fits : SFits w64 (c .share .result)
   t-fits = ok64 (c .share .result) (c .share .ok)
 
-  t-is : c .share .result ≡ invested (start o .args .t1) (start o .args .t2) (start o .args .n) (k o)
+  t-is : c .share .result ≡ invested (start o .args .v .now) (start o .args .w .now) (start o .args .n) (k o)
   t-is = simp (back, x-fits o, w-fits o) at (c .share .ensures)
 
   s-fits : SFits w64 (toZ w64 (o .before .loop .s) +ℤ c .share .result)
@@ -117,9 +117,9 @@ total-spec =
     sub-years
     sub-d
     mul-share
-    array-copy-out-share
+    element-copy-out-share
     mul-share-2
-    array-copy-out-share-2
+    element-copy-out-share-2
     share-requires
     add-s
     add-k
