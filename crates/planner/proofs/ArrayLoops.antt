@@ -1,26 +1,28 @@
 -- The loops that prepare a plan's numbers for the core: the state of each, its start, a turn, its end.
-use mathlib.Core.Path.{_≡_, refl, sym, _∙_}
-use mathlib.Core.List.{List}
+use mathlib.Core.Path.{_≡_, sym, ap, ap₂, _∙_}
+use mathlib.Core.List.{List, []}
 use Prim.Native.Nat.{ℕ, _+_, _≤_, _<_}
-use native.Mathlib.Nat.{le-of-eq}
 use native.Mathlib.Omega.{arith}
-use lib.ListN.{set, replicate}
+use lib.ListN.{getD, set, replicate}
 use lib.IntN.{ℤ, pos, negℤ, _-ℤ_, _*ℤ_}
 use mir.Syntax.{w64}
 use mir.Val.{SFits}
 use Rattle.whole.specs.Range.{million}
 use Rattle.whole.specs.Floor.{floor}
+use Rattle.whole.specs.Sum.{sum}
 use Rattle.whole.specs.Table.{table}
 use Rattle.whole.proofs.Bridge.{whole, at, #, _⊖_, ⊝}
 use Rattle.whole.proofs.Range.{within-more, within-neg, within-fits}
-use Rattle.whole.proofs.Sum.{Σℕ-from, Σℤ-from}
-use Rattle.whole.proofs.Table.{table-none, table-more}
+use Rattle.whole.proofs.Sum.{Σℤ-from}
+use Rattle.whole.proofs.Table.{table-none, table-more, table-at}
 use Rattle.reckoning.specs.Reckoning.{paid, flow}
-use Rattle.plan.specs.Numbers.{Numbers}
+use Rattle.plan.specs.Numbers.{Numbers, numbers}
 use Rattle.plan.specs.Refusal.{most, Accepted}
+use Rattle.plan.specs.declared.Plan.{Plan}
+use Rattle.plan.proofs.Numbers.{allocation-is}
 use Rattle.planner.specs.Calls.{flowOf}
-use Rattle.planner.proofs.Held.{payment-within, flow-within}
-use Rattle.planner.proofs.Weighing.{Parts, Weighing, weigh-end}
+use Rattle.planner.specs.Arrays.{paymentsRow, paymentsRows, columnOf, Weighable}
+use Rattle.planner.proofs.Held.{payment-within, flow-within, allocation-parts, row-is}
 
 -- ---- an array of m places that is filled with f up to n: v has the first k, and d at the other places
 pub record Filling {A : Type 0} (m n : ℕ) (f : ℕ → A) (d : A) (v : List A) (k : ℕ) : Type 0 where
@@ -37,16 +39,29 @@ module _ {A : Type 0} {m n : ℕ} {f : ℕ → A} {d : A} where
   pub fill-end : {v : List A} {k : ℕ} → n ≤ k → Filling m n f d v k → v ≡ table m n f d
   fill-end {v} {k} l s = let e : k ≡ n = omega (arith, s .upto) in rw e at (s .is)
 
--- ---- what the allocation pays in year k, a weighted sum
-pub pay-parts : {P : Numbers} → Accepted P → (k : ℕ) → Parts (P .instruments) (λ j. P .a k (1 + j)) (λ j. P .p (1 + j))
-pay-parts {P} ok k = record {
-  number = λ j l. within-more (omega arith) (payment-within ok k (1 + j));
-  parts = le-of-eq (sym (Σℕ-from 1 (P .instruments) (P .instruments) (P .p) _ (omega arith) (λ j l. refl)) ∙ ok .allocation);
-}
+-- ---- what the allocation pays in year 1 + k: the weighted sum of a column of the payments
+module _ (plan : Plan) (ok : Accepted (numbers plan)) {rows : List (List ℤ)} (e : rows ≡ paymentsRows (numbers plan)) {k : ℕ} (l : k < plan .years)
+    {c : List ℤ} (f : c ≡ columnOf (plan .instruments) rows k)
+  where
+    column-at : (j : ℕ) → j < plan .instruments → getD c j (pos 0) ≡ numbers plan .a (1 + k) (1 + j)
+    unfolding columnOf paymentsRow
+    column-at j h =
+        let entry = table-at 16 (plan .instruments) (λ j. getD (getD rows j []) k (pos 0)) (pos 0) (pos 0) j h (ok .head .instruments-few) in
+        let row : getD rows j [] ≡ paymentsRow (numbers plan) j = rw e (row-is plan ok j h) in
+        ap (λ (c : List ℤ). getD c j (pos 0)) f ∙ entry ∙ ap (λ (v : List ℤ). getD v k (pos 0)) row
+        ∙ table-at 30 (plan .years) (λ k. numbers plan .a (1 + k) (1 + j)) (pos 0) (pos 0) k l (ok .head .years-few)
 
-pub pay-end : (P : Numbers) (k : ℕ) {s : ℤ} {j : ℕ} → P .instruments ≤ j → Weighing (P .instruments) (λ j. P .a k (1 + j)) (λ j. P .p (1 + j)) s j → s ≡ paid (P .instruments) (P .a) (P .p) k
-unfolding paid
-pay-end P k l a = weigh-end l a ∙ sym (Σℤ-from 1 (P .instruments) (P .instruments) (λ j. P .a k j *ℤ pos (P .p j)) _ (omega arith) (λ j l. refl))
+    pub column-weighable : Weighable (plan .instruments) c (plan .allocation)
+    column-weighable = record {
+      few = ok .head .instruments-few;
+      amount = λ j h. rw (column-at j h) (within-more (omega arith) (payment-within ok (1 + k) (1 + j)));
+      parts = allocation-parts plan ok;
+    }
+
+    pub column-paid : {s : ℤ} → s ≡ sum (plan .instruments) (λ j. getD c j (pos 0) *ℤ pos (getD (plan .allocation) j 0)) → s ≡ paid (plan .instruments) (numbers plan .a) (numbers plan .p) (1 + k)
+    unfolding paid
+    column-paid g = g ∙ sym (Σℤ-from 1 (plan .instruments) (plan .instruments) (λ j. numbers plan .a (1 + k) j *ℤ pos (numbers plan .p j)) _ (omega arith)
+        (λ j h. ap₂ (λ (x : ℤ) (p : ℕ). x *ℤ pos p) (sym (column-at j h)) (allocation-is plan j h)))
 
 -- ---- the flow of year k: s is what the allocation pays in millionths, z in amounts, and o goes out
 module _ {P : Numbers} (ok : Accepted P) {k : ℕ} {o : ℤ} (outflow : P .o k ≡ o) where

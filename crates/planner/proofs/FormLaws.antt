@@ -2,7 +2,6 @@
 use mathlib.Core.Path.{_≡_, sym, ap, ap₂, _∙_}
 use mathlib.Core.Bool.{true}
 use Prim.Native.Nat.{ℕ, _+_, _*_, _<_}
-use native.Mathlib.Nat.{le-of-eq}
 use native.Mathlib.Omega.{arith}
 use lib.ListN.{getD}
 use lib.IntN.{ℤ, pos, negℤ, _+ℤ_, _*ℤ_}
@@ -14,7 +13,7 @@ use Rattle.whole.specs.Sum.{sum}
 use Rattle.whole.specs.Table.{table}
 use Rattle.whole.proofs.Range.{within-add, within-fits}
 use Rattle.whole.proofs.Floor.{floor-within}
-use Rattle.whole.proofs.Sum.{Σℕ-from, Σℤ-from}
+use Rattle.whole.proofs.Sum.{Σℤ-from}
 use Rattle.whole.proofs.Test.{both-second, both-not, all-at, between-fact}
 use Rattle.whole.proofs.Table.{table-at}
 use Rattle.reckoning.specs.Reckoning.{fund}
@@ -28,6 +27,7 @@ use Rattle.plan.proofs.Numbers.{allocation-is}
 use Rattle.planner.specs.Calls.{noForm, coefficientsFit, constantFits, formOf, formReckoned}
 use Rattle.planner.specs.Arrays.{fundsReckoned, Weighable}
 use Rattle.planner.specs.declared.Coefficients.{Coefficients}
+use Rattle.planner.proofs.Held.{allocation-parts}
 use Rattle.planner.proofs.FormLoops.{funds-refused, funds-fit, funds-are}
 use Rattle.planner.proofs.Answers.{reckoned-refused, reckoned-fits, reckoned-is}
 
@@ -80,8 +80,8 @@ module _ (plan : Plan) (ok : Accepted (numbers plan)) (i : ℕ → ℤ) {c : Coe
   pub weighable : Weighable (plan .instruments) (c .values) (plan .allocation)
   weighable = record {
     few = ok .head .instruments-few;
-    coefficient = λ j l. rw (coefficient-at j l) (coefficient-within j l);
-    parts = le-of-eq (sym (Σℕ-from 1 (plan .instruments) (plan .instruments) (numbers plan .p) _ (omega arith) (allocation-is plan)) ∙ ok .allocation);
+    amount = λ j l. rw (coefficient-at j l) (coefficient-within j l);
+    parts = allocation-parts plan ok;
   }
 
   -- the sum of the coefficients, each times its part

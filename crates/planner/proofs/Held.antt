@@ -9,19 +9,20 @@ use lib.ListN.{getD}
 use lib.IntN.{ℤ, pos, natAbs, negℤ, _-ℤ_, _*ℤ_, zero-*ℤ}
 use Rattle.whole.specs.Range.{million, limit, Between, Within}
 use Rattle.whole.specs.Floor.{floor}
+use Rattle.whole.specs.Sum.{sumℕ}
 use Rattle.whole.specs.Table.{table}
 use Rattle.whole.proofs.Bridge.{whole}
 use Rattle.whole.proofs.Range.{within-more, within-sub, within-neg}
 use Rattle.whole.proofs.Floor.{floor-within}
-use Rattle.whole.proofs.Sum.{sum-zeros, sum-within-parts, sumℕ-one}
+use Rattle.whole.proofs.Sum.{Σℕ-from, sum-zeros, sum-within-parts, sumℕ-one}
 use Rattle.whole.proofs.Table.{table-at, table-each, table-cong}
 use Rattle.whole.proofs.Entry.{nth-table, entry-cong, table-held}
 use Rattle.reckoning.specs.Reckoning.{paid, flow}
-use Rattle.reckoning.specs.Arrays.{sharesOf, ratesOf, amountsOf, Years, Terms, Rates, Amounts, noRow, weightsOf, Ready}
+use Rattle.reckoning.specs.Arrays.{sharesOf, ratesOf, amountsOf, Years, Terms, Rates, Amounts, weightsOf, Ready}
 use Rattle.plan.specs.Numbers.{Numbers, rateAt, numbers}
 use Rattle.plan.specs.Refusal.{most, Accepted}
 use Rattle.plan.specs.declared.Plan.{Plan}
-use Rattle.plan.proofs.Numbers.{payment-before, payment-past, outflow-before, outflow-past, rollover-before, pattern-is, rate-is}
+use Rattle.plan.proofs.Numbers.{payment-before, payment-past, outflow-before, outflow-past, rollover-before, allocation-is, pattern-is, rate-is}
 use Rattle.planner.specs.Calls.{flowOf}
 use Rattle.planner.specs.Arrays.{rolloverArray, ratesArray, flowArray, outflowArray, paymentsRow, paymentsRows}
 
@@ -48,6 +49,9 @@ no-flow P k none e = ap₂ (λ (s o : ℤ). floor s million -ℤ o)
 module _ (plan : Plan) (ok : Accepted (numbers plan)) where
   pub years : Years (plan .years)
   years = record { some = ok .head .years-some; few = ok .head .years-few }
+
+  pub allocation-parts : sumℕ (plan .instruments) (λ j. getD (plan .allocation) j 0) ≤ million
+  allocation-parts = le-of-eq (sym (Σℕ-from 1 (plan .instruments) (plan .instruments) (numbers plan .p) _ (omega arith) (allocation-is plan)) ∙ ok .allocation)
 
   -- ---- what each array is by the papers' index
   pub rollover-held : sharesOf (rolloverArray (numbers plan)) ≡ numbers plan .r
@@ -80,12 +84,12 @@ module _ (plan : Plan) (ok : Accepted (numbers plan)) where
   outflow-held = fun-ext (table-held (pos 0) (λ k. negℤ (numbers plan .o k)) (ok .head .years-few) (ap negℤ (outflow-before plan)) (λ k l. ap negℤ (outflow-past plan k l)))
 
   -- the row of one instrument
-  row-is : (j : ℕ) → j < plan .instruments → getD (paymentsRows (numbers plan)) j (record { values = [] }) ≡ paymentsRow (numbers plan) j
+  pub row-is : (j : ℕ) → j < plan .instruments → getD (paymentsRows (numbers plan)) j [] ≡ paymentsRow (numbers plan) j
   unfolding paymentsRows
-  row-is j h = table-at 16 (plan .instruments) (paymentsRow (numbers plan)) noRow (record { values = [] }) j h (ok .head .instruments-few)
+  row-is j h = table-at 16 (plan .instruments) (paymentsRow (numbers plan)) _ [] j h (ok .head .instruments-few)
 
   pub payments-held : (j : ℕ) → j < plan .instruments →
-      amountsOf (getD (paymentsRows (numbers plan)) j (record { values = [] }) .values) ≡ (λ k. numbers plan .a k (1 + j))
+      amountsOf (getD (paymentsRows (numbers plan)) j []) ≡ (λ k. numbers plan .a k (1 + j))
   unfolding amountsOf paymentsRow
   payments-held j h = rw (row-is j h) (fun-ext (table-held (pos 0) (λ k. numbers plan .a k (1 + j)) (ok .head .years-few) (payment-before plan (1 + j)) (λ k l. payment-past plan k (1 + j) l)))
 
@@ -121,7 +125,7 @@ module _ (plan : Plan) (ok : Accepted (numbers plan)) where
         (λ k h. within-more (omega arith) (within-neg (ok .outflows (1 + k))));
   }
 
-  pub payments-amounts : (j : ℕ) → j < plan .instruments → Amounts (getD (paymentsRows (numbers plan)) j (record { values = [] }) .values)
+  pub payments-amounts : (j : ℕ) → j < plan .instruments → Amounts (getD (paymentsRows (numbers plan)) j [])
   unfolding paymentsRow
   payments-amounts j h = rw (row-is j h) (record {
     amount = table-each (Within limit) 30 (plan .years) (λ k. numbers plan .a (1 + k) (1 + j)) (pos 0) (pos 0) (ok .head .years-few) (omega whole)

@@ -13,7 +13,7 @@ use Rattle.plan.specs.Numbers.{Numbers, numbers}
 use Rattle.plan.specs.Refusal.{Accepted}
 use Rattle.plan.specs.declared.Plan.{Plan}
 use Rattle.planner.specs.Calls.{flowOf}
-use Rattle.planner.specs.Arrays.{rolloverArray, ratesArray, flowArray, commonOf, flowsIn, Flows, fundsReckoned}
+use Rattle.planner.specs.Arrays.{rolloverArray, ratesArray, flowArray, paymentsRows, commonOf, flowsIn, Flows, fundsReckoned}
 use Rattle.planner.specs.Rows.{rowAnswer}
 use Rattle.planner.specs.declared.Common.{Common}
 use Rattle.planner.proofs.Held.{rollover-held, rates-held, flow-held, outflow-held, payments-held, rates, flow-amounts, outflow-amounts, payments-amounts, ready}
@@ -38,7 +38,7 @@ module _ (plan : Plan) (t : ℕ) (c : Called plan t) {i : List ℤ} (e : i ≡ r
     gammas-is = rw (f, pattern-held, rollover-held plan (c .plan-ok))
 
 -- ---- what all patterns share
-module _ (plan : Plan) (ok : Accepted (numbers plan)) {common : Common} (e : common ≡ commonOf (numbers plan)) where
+module _ (plan : Plan) (ok : Accepted (numbers plan)) {common : Common} (e : common ≡ commonOf (numbers plan)) {payments : List (List ℤ)} (g : payments ≡ paymentsRows (numbers plan)) where
   abbrev P : Numbers
   P = numbers plan
 
@@ -54,30 +54,29 @@ module _ (plan : Plan) (ok : Accepted (numbers plan)) {common : Common} (e : com
   unfolding commonOf
   common-outflow = rw e (outflow-held plan ok)
 
-  common-payments : (j : ℕ) → j < plan .instruments → flowsIn (common .payments) j ≡ (λ k. P .a k (1 + j))
-  unfolding commonOf
-  common-payments = rw e (payments-held plan ok)
+  common-payments : (j : ℕ) → j < plan .instruments → flowsIn payments j ≡ (λ k. P .a k (1 + j))
+  common-payments = rw g (payments-held plan ok)
 
   pub common-ready : {i : List ℤ} → Rates i → Ready (plan .terms) (common .rollover) (common .weights) i
   unfolding commonOf
   common-ready = rw e (ready plan ok refl (ap weightsOf (sym (rollover-held plan ok))))
 
-  pub common-flows : Flows (common .flow) (common .outflow) (plan .instruments) (common .payments)
+  pub common-flows : Flows (common .flow) (common .outflow) (plan .instruments) payments
   unfolding commonOf
-  common-flows = rw e (record {
+  common-flows = rw (e, g) (record {
     flow-amounts = flow-amounts plan ok;
     outflow-amounts = outflow-amounts plan ok;
     payments = record { few = ok .head .instruments-few; amounts = payments-amounts plan ok };
   })
 
   -- ---- the core's answers for what is prepared are those for the plan's numbers
-  all-fit : (i : ℕ → ℤ) → all (plan .instruments) (λ j. fundFits (P .r) i (flowsIn (common .payments) j) (plan .years)) ≡ all (plan .instruments) (λ j. fundFits (P .r) i (λ k. P .a k (1 + j)) (plan .years))
+  all-fit : (i : ℕ → ℤ) → all (plan .instruments) (λ j. fundFits (P .r) i (flowsIn payments j) (plan .years)) ≡ all (plan .instruments) (λ j. fundFits (P .r) i (λ k. P .a k (1 + j)) (plan .years))
   all-fit i = all-cong (plan .instruments) _ _ (λ j l. ap (λ (f : ℕ → ℤ). fundFits (P .r) i f (plan .years)) (common-payments j l))
 
-  all-funds : (i : ℕ → ℤ) → table 16 (plan .instruments) (λ j. fund (P .r) i (plan .years) (flowsIn (common .payments) j)) (pos 0) ≡ table 16 (plan .instruments) (λ j. fund (P .r) i (plan .years) (λ k. P .a k (1 + j))) (pos 0)
+  all-funds : (i : ℕ → ℤ) → table 16 (plan .instruments) (λ j. fund (P .r) i (plan .years) (flowsIn payments j)) (pos 0) ≡ table 16 (plan .instruments) (λ j. fund (P .r) i (plan .years) (λ k. P .a k (1 + j))) (pos 0)
   all-funds i = table-cong 16 (plan .instruments) _ _ (pos 0) (λ j l. ap (fund (P .r) i (plan .years)) (common-payments j l))
 
-  pub coefficients-is : (i : ℕ → ℤ) → fundsReckoned (sharesOf (common .rollover)) i (plan .years) (plan .instruments) (flowsIn (common .payments)) ≡ coefficientsOf P i
+  pub coefficients-is : (i : ℕ → ℤ) → fundsReckoned (sharesOf (common .rollover)) i (plan .years) (plan .instruments) (flowsIn payments) ≡ coefficientsOf P i
   unfolding fundsReckoned
   coefficients-is i = rw (common-rollover, all-fit i, all-funds i)
 
@@ -86,6 +85,6 @@ module _ (plan : Plan) (ok : Accepted (numbers plan)) {common : Common} (e : com
 
   -- and what all of these come to is the row of the pattern
   pub row-is : {i : ℕ → ℤ} (t : ℕ) → i ≡ P .i t →
-      rowAnswer (sharesOf (common .rollover)) i (plan .years) (plan .instruments) (amountsOf (common .flow)) (amountsOf (common .outflow)) (flowsIn (common .payments)) ≡ rowReckoned P t
+      rowAnswer (sharesOf (common .rollover)) i (plan .years) (plan .instruments) (amountsOf (common .flow)) (amountsOf (common .outflow)) (flowsIn payments) ≡ rowReckoned P t
   unfolding rowAnswer
   row-is t h = rw (h, common-rollover, common-flow, common-outflow, all-fit (P .i t), all-funds (P .i t))

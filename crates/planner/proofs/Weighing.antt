@@ -20,7 +20,7 @@ pub record Parts (n : ℕ) (x : ℕ → ℤ) (p : ℕ → ℕ) : Type 0 where
   pub parts : sumℕ n p ≤ million
 
 pub weighable-parts : {n : ℕ} {k : List ℤ} {p : List ℕ} → Weighable n k p → Parts n (λ j. getD k j (pos 0)) (λ j. getD p j 0)
-weighable-parts w = record { number = w .coefficient; parts = w .parts }
+weighable-parts w = record { number = w .amount; parts = w .parts }
 
 -- s is the sum of the first j
 pub record Weighing (n : ℕ) (x : ℕ → ℤ) (p : ℕ → ℕ) (s : ℤ) (j : ℕ) : Type 0 where

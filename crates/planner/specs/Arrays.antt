@@ -8,8 +8,7 @@ use Rattle.whole.specs.Sum.{sumℕ}
 use Rattle.whole.specs.Test.{pick, all}
 use Rattle.whole.specs.Table.{table}
 use Rattle.reckoning.specs.Reckoning.{fund}
-use Rattle.reckoning.specs.Arrays.{amountsOf, Amounts, noRow, weightsOf, fundFits}
-use Rattle.reckoning.specs.declared.Row.{Row}
+use Rattle.reckoning.specs.Arrays.{amountsOf, Amounts, weightsOf, fundFits}
 use Rattle.plan.specs.Numbers.{Numbers}
 use Rattle.planner.specs.declared.Common.{Common}
 use Rattle.planner.specs.declared.Coefficients.{Coefficients}
@@ -28,36 +27,37 @@ module _ (P : Numbers) where
   unfoldable pub outflowArray : List ℤ
   outflowArray = table 30 (P .years) (λ k. negℤ (P .o (1 + k))) (pos 0)
 
-  unfoldable pub paymentsRow : (j : ℕ) → Row
-  paymentsRow j = record { values = table 30 (P .years) (λ k. P .a (1 + k) (1 + j)) (pos 0) }
+  unfoldable pub paymentsRow : (j : ℕ) → List ℤ
+  paymentsRow j = table 30 (P .years) (λ k. P .a (1 + k) (1 + j)) (pos 0)
 
-  unfoldable pub paymentsRows : List Row
-  paymentsRows = table 16 (P .instruments) paymentsRow noRow
+  unfoldable pub paymentsRows : List (List ℤ)
+  paymentsRows = table 16 (P .instruments) paymentsRow (replicate 30 (pos 0))
 
-  -- what all patterns of a plan share
+  -- what all patterns of a plan share, beside the payments
   unfoldable pub commonOf : Common
   commonOf = record {
     rollover = rolloverArray;
     weights = weightsOf (P .r);
     flow = flowArray;
     outflow = outflowArray;
-    payments = paymentsRows;
   }
 
 -- ---- rows of amounts, counted from 0
-abbrev pub rowAt : List Row → (j : ℕ) → List ℤ
-rowAt rows j = getD rows j (record { values = [] }) .values
+-- the entries k of n rows
+unfoldable pub columnOf : (n : ℕ) → List (List ℤ) → (k : ℕ) → List ℤ
+columnOf n rows k = table 16 n (λ j. getD (getD rows j []) k (pos 0)) (pos 0)
 
-abbrev pub flowsIn : List Row → (j k : ℕ) → ℤ
-flowsIn rows j = amountsOf (rowAt rows j)
+-- row j as a flow
+abbrev pub flowsIn : List (List ℤ) → (j k : ℕ) → ℤ
+flowsIn rows j = amountsOf (getD rows j [])
 
 -- n rows of payments within the limit
-pub record Payments (n : ℕ) (rows : List Row) : Type 0 where
+pub record Payments (n : ℕ) (rows : List (List ℤ)) : Type 0 where
   pub few : n ≤ 16
-  pub amounts : (j : ℕ) → j < n → Amounts (rowAt rows j)
+  pub amounts : (j : ℕ) → j < n → Amounts (getD rows j [])
 
 -- all that a pattern reckons: the allocation's flow, -o, and n rows of payments
-pub record Flows (flow outflow : List ℤ) (n : ℕ) (rows : List Row) : Type 0 where
+pub record Flows (flow outflow : List ℤ) (n : ℕ) (rows : List (List ℤ)) : Type 0 where
   pub flow-amounts : Amounts flow
   pub outflow-amounts : Amounts outflow
   pub payments : Payments n rows
@@ -68,8 +68,8 @@ fundsReckoned r i N n a = pick (all n (λ j. fundFits r i (a j) N))
     (record { refusal = 0; values = table 16 n (λ j. fund r i N (a j)) (pos 0) })
     (record { refusal = 11; values = replicate 16 (pos 0) })
 
--- n coefficients within the limit, and parts of at most 1,000,000 together
+-- n amounts within the limit, and parts of at most 1,000,000 together
 pub record Weighable (n : ℕ) (k : List ℤ) (p : List ℕ) : Type 0 where
   pub few : n ≤ 16
-  pub coefficient : (j : ℕ) → j < n → Within limit (getD k j (pos 0))
+  pub amount : (j : ℕ) → j < n → Within limit (getD k j (pos 0))
   pub parts : sumℕ n (λ j. getD p j 0) ≤ million

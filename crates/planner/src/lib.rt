@@ -15,10 +15,9 @@ ghost use Rattle.whole.specs.Table.{table};
 ghost use Rattle.reckoning.specs.Arrays.{sharesOf, ratesOf, amountsOf, Years, Rates, Ready};
 ghost use Rattle.plan.specs.Numbers.{numbers};
 ghost use Rattle.plan.specs.Refusal.{Accepted};
-ghost use Rattle.reckoning.specs.Reckoning.{paid as paidOf};
 ghost use Rattle.planner.specs.Calls.{noForm, callRefusal, fundAnswer, boundAnswer, gammasAnswer, formReckoned, formAnswer};
 ghost use Rattle.planner.specs.Verdict.{short, wordOf, bitsOf, noPattern, planWordOf, verdictAnswer, judgementOf};
-ghost use Rattle.planner.specs.Arrays.{rolloverArray, ratesArray, flowArray, outflowArray, paymentsRows, commonOf, flowsIn, Payments, Flows, fundsReckoned, Weighable};
+ghost use Rattle.planner.specs.Arrays.{rolloverArray, ratesArray, flowArray, outflowArray, paymentsRows, commonOf, columnOf, flowsIn, Payments, Flows, fundsReckoned, Weighable};
 ghost use Rattle.planner.specs.Rows.{refusedRow, rowAnswer, noJudgement, rowsReckoned, rowIn, verdictOf};
 ghost use Rattle.planner.specs.Demand3.{FundNear, FormNear, VerdictTrue};
 
@@ -34,13 +33,12 @@ pub struct FormAnswer {
     pub value: i64,
 }
 
-// What all patterns of a plan share: the rollover and its weights, and every flow that is reckoned.
+// What all patterns of a plan share, beside the payments: the rollover and its weights, the allocation's flow, and -o.
 pub struct Common {
     pub rollover: [i64; 30],
     pub weights: [i64; 30],
     pub flow: [i64; 30],
     pub outflow: [i64; 30],
-    pub payments: [Row; 16],
 }
 
 pub struct Coefficients {
@@ -104,32 +102,61 @@ fn rates_of(plan: Plan, t: usize) -> [i64; 30]
     widened(xs, years - 1)
 }
 
-// What the allocation pays in year k + 1, in millionths.
-fn paid(plan: Plan, k: usize) -> i64
+// The payments of each instrument.
+fn payments_of(plan: Plan) -> [[i64; 30]; 16]
     requires { ⌜ Accepted (numbers plan) ⌝ }
-    requires { ⌜ k < plan .years ⌝ }
-    ensures { λ s. ⌜ s ≡ paidOf (plan .instruments) (numbers plan .a) (numbers plan .p) (1 + k) ⌝ }
+    ensures { λ s. ⌜ s ≡ paymentsRows (numbers plan) ⌝ }
 {
     let n = plan.instruments;
+    let years = plan.years;
+    let mut rows = [[0i64; 30]; 16];
+    for j in 0..n {
+        let one = plan.instrument[j];
+        let xs = one.payments;
+        rows[j] = cut(xs, years);
+    }
+    rows
+}
+
+// What n instruments pay in year k + 1.
+fn column(payments: &[[i64; 30]; 16], n: usize, k: usize) -> [i64; 16]
+    requires { ⌜ n ≤ 16 ⌝ }
+    requires { ⌜ k < 30 ⌝ }
+    ensures { λ s. ⌜ s ≡ columnOf n (now (payments .entry)) k ⌝ }
+{
+    let mut v = [0i64; 16];
+    for j in 0..n {
+        v[j] = payments[j][k];
+    }
+    v
+}
+
+// The sum of n amounts, each times its part.
+fn weighted(k: [i64; 16], p: [u32; 16], n: usize) -> i64
+    requires { ⌜ Weighable n k p ⌝ }
+    ensures { λ s. ⌜ s ≡ sum n (λ j. getD k j (pos 0) *ℤ pos (getD p j 0)) ⌝ }
+{
     let mut s: i64 = 0;
     for j in 0..n {
-        let row = plan.instrument[j];
-        let x = row.payments[k];
-        let p = wide(plan.allocation[j]);
-        s += x * p;
+        let f = wide(p[j]);
+        s += k[j] * f;
     }
     s
 }
 
 // The allocation's flow.
-fn flow_of(plan: Plan) -> [i64; 30]
+fn flow_of(plan: Plan, payments: &[[i64; 30]; 16]) -> [i64; 30]
     requires { ⌜ Accepted (numbers plan) ⌝ }
+    requires { ⌜ now payments ≡ paymentsRows (numbers plan) ⌝ }
     ensures { λ s. ⌜ s ≡ flowArray (numbers plan) ⌝ }
 {
     let years = plan.years;
+    let n = plan.instruments;
+    let p = plan.allocation;
     let mut v = [0i64; 30];
     for k in 0..years {
-        let z = paid(plan, k);
+        let c = column(payments, n, k);
+        let z = weighted(c, p, n);
         v[k] = whole::down(z) - plan.outflows[k];
     }
     v
@@ -148,40 +175,21 @@ fn outflow_of(plan: Plan) -> [i64; 30]
     v
 }
 
-// The payments of each instrument.
-fn payments_of(plan: Plan) -> [Row; 16]
+fn common_of(plan: Plan, payments: &[[i64; 30]; 16]) -> Common
     requires { ⌜ Accepted (numbers plan) ⌝ }
-    ensures { λ s. ⌜ s ≡ paymentsRows (numbers plan) ⌝ }
-{
-    let n = plan.instruments;
-    let years = plan.years;
-    let none = Row { values: [0; 30] };
-    let mut rows = [none; 16];
-    for j in 0..n {
-        let one = plan.instrument[j];
-        let xs = one.payments;
-        let v = cut(xs, years);
-        rows[j] = Row { values: v };
-    }
-    rows
-}
-
-fn common_of(plan: Plan) -> Common
-    requires { ⌜ Accepted (numbers plan) ⌝ }
+    requires { ⌜ now payments ≡ paymentsRows (numbers plan) ⌝ }
     ensures { λ s. ⌜ s ≡ commonOf (numbers plan) ⌝ }
 {
     let q = plan.terms;
     let r = rollover_of(plan);
     let w = reckoning::weights(r, q);
-    let x = flow_of(plan);
+    let x = flow_of(plan, payments);
     let o = outflow_of(plan);
-    let p = payments_of(plan);
     Common {
         rollover: r,
         weights: w,
         flow: x,
         outflow: o,
-        payments: p,
     }
 }
 
@@ -189,7 +197,7 @@ fn common_of(plan: Plan) -> Common
 
 // The funds of n rows of payments: K_1 to K_n.
 fn coefficients_of(
-    payments: [Row; 16],
+    payments: &[[i64; 30]; 16],
     r: &[i64; 30],
     w: &[i64; 30],
     i: &[i64; 30],
@@ -198,15 +206,13 @@ fn coefficients_of(
     q: usize,
 ) -> Coefficients
     requires { ⌜ Ready q (now r) (now w) (now i) ⌝ }
-    requires { ⌜ Payments n payments ⌝ }
+    requires { ⌜ Payments n (now payments) ⌝ }
     requires { ⌜ Years years ⌝ }
-    ensures { λ s. ⌜ s ≡ fundsReckoned (sharesOf (now (r .entry))) (ratesOf (now (i .entry))) years n (flowsIn payments) ⌝ }
+    ensures { λ s. ⌜ s ≡ fundsReckoned (sharesOf (now (r .entry))) (ratesOf (now (i .entry))) years n (flowsIn (now (payments .entry))) ⌝ }
 {
     let mut k = [0i64; 16];
     for j in 0..n {
-        let row = payments[j];
-        let x = row.values;
-        let c = reckoning::fund(&x, r, w, i, years, q);
+        let c = reckoning::fund(&payments[j], r, w, i, years, q);
         let no = c.refusal;
         if no != 0 {
             return Coefficients {
@@ -223,19 +229,6 @@ fn coefficients_of(
     }
 }
 
-// The sum of n coefficients, each times its part.
-fn weighted(k: [i64; 16], p: [u32; 16], n: usize) -> i64
-    requires { ⌜ Weighable n k p ⌝ }
-    ensures { λ s. ⌜ s ≡ sum n (λ j. getD k j (pos 0) *ℤ pos (getD p j 0)) ⌝ }
-{
-    let mut s: i64 = 0;
-    for j in 0..n {
-        let f = wide(p[j]);
-        s += k[j] * f;
-    }
-    s
-}
-
 fn no_form(refusal: u8) -> FormAnswer
     ensures { λ s. ⌜ s ≡ noForm refusal ⌝ }
 {
@@ -248,25 +241,25 @@ fn no_form(refusal: u8) -> FormAnswer
 }
 
 // K_1 to K_n, Q and the value at the plan's allocation.
-fn form_at(plan: Plan, common: Common, i: [i64; 30]) -> FormAnswer
+fn form_at(plan: Plan, common: Common, payments: &[[i64; 30]; 16], i: &[i64; 30]) -> FormAnswer
     requires { ⌜ Accepted (numbers plan) ⌝ }
     requires { ⌜ common ≡ commonOf (numbers plan) ⌝ }
-    requires { ⌜ Rates i ⌝ }
-    ensures { λ s. ⌜ s ≡ formReckoned (numbers plan) (ratesOf i) ⌝ }
+    requires { ⌜ now payments ≡ paymentsRows (numbers plan) ⌝ }
+    requires { ⌜ Rates (now i) ⌝ }
+    ensures { λ s. ⌜ s ≡ formReckoned (numbers plan) (ratesOf (now (i .entry))) ⌝ }
 {
     let n = plan.instruments;
     let years = plan.years;
     let q = plan.terms;
     let r = common.rollover;
     let w = common.weights;
-    let payments = common.payments;
-    let c = coefficients_of(payments, &r, &w, &i, n, years, q);
+    let c = coefficients_of(payments, &r, &w, i, n, years, q);
     let no = c.refusal;
     if no != 0 {
         return no_form(11);
     }
     let o = common.outflow;
-    let d = reckoning::fund(&o, &r, &w, &i, years, q);
+    let d = reckoning::fund(&o, &r, &w, i, years, q);
     let also = d.refusal;
     if also != 0 {
         return no_form(11);
@@ -320,7 +313,8 @@ pub fn fund(plan: Plan, t: usize) -> Reckoned
     let r = rollover_of(plan);
     let w = reckoning::weights(r, q);
     let i = rates_of(plan, t);
-    let x = flow_of(plan);
+    let payments = payments_of(plan);
+    let x = flow_of(plan, &payments);
     reckoning::fund(&x, &r, &w, &i, years, q)
 }
 
@@ -353,8 +347,10 @@ pub fn form(plan: Plan, t: usize) -> FormAnswer
     if no != 0 {
         return no_form(no);
     }
-    let common = common_of(plan);
-    form_at(plan, common, rates_of(plan, t))
+    let payments = payments_of(plan);
+    let common = common_of(plan, &payments);
+    let i = rates_of(plan, t);
+    form_at(plan, common, &payments, &i)
 }
 
 // The table of gammas of pattern t.
@@ -452,7 +448,7 @@ fn refused_row() -> OneRow
 fn row_at(
     flow: &[i64; 30],
     outflow: &[i64; 30],
-    payments: [Row; 16],
+    payments: &[[i64; 30]; 16],
     r: &[i64; 30],
     w: &[i64; 30],
     i: &[i64; 30],
@@ -461,9 +457,9 @@ fn row_at(
     q: usize,
 ) -> OneRow
     requires { ⌜ Ready q (now r) (now w) (now i) ⌝ }
-    requires { ⌜ Flows (now flow) (now outflow) n payments ⌝ }
+    requires { ⌜ Flows (now flow) (now outflow) n (now payments) ⌝ }
     requires { ⌜ Years years ⌝ }
-    ensures { λ s. ⌜ s ≡ rowAnswer (sharesOf (now (r .entry))) (ratesOf (now (i .entry))) years n (amountsOf (now (flow .entry))) (amountsOf (now (outflow .entry))) (flowsIn payments) ⌝ }
+    ensures { λ s. ⌜ s ≡ rowAnswer (sharesOf (now (r .entry))) (ratesOf (now (i .entry))) years n (amountsOf (now (flow .entry))) (amountsOf (now (outflow .entry))) (flowsIn (now (payments .entry))) ⌝ }
 {
     let c = reckoning::fund(flow, r, w, i, years, q);
     let no = c.refusal;
@@ -499,9 +495,10 @@ fn row_at(
 }
 
 // Every pattern in turn, until check 11 refuses one.
-fn rows_of(plan: Plan, common: Common) -> PatternRows
+fn rows_of(plan: Plan, common: Common, payments: &[[i64; 30]; 16]) -> PatternRows
     requires { ⌜ Accepted (numbers plan) ⌝ }
     requires { ⌜ common ≡ commonOf (numbers plan) ⌝ }
+    requires { ⌜ now payments ≡ paymentsRows (numbers plan) ⌝ }
     ensures { λ s. ⌜ s ≡ rowsReckoned (numbers plan) ⌝ }
 {
     let m = plan.patterns;
@@ -510,7 +507,6 @@ fn rows_of(plan: Plan, common: Common) -> PatternRows
     let q = plan.terms;
     let flow = common.flow;
     let outflow = common.outflow;
-    let payments = common.payments;
     let r = common.rollover;
     let w = common.weights;
     let none = no_pattern();
@@ -625,8 +621,9 @@ pub fn judge(plan: Plan) -> Judgement
     if no != 0 {
         return no_judgement(no);
     }
-    let common = common_of(plan);
-    let c = rows_of(plan, common);
+    let payments = payments_of(plan);
+    let common = common_of(plan, &payments);
+    let c = rows_of(plan, common, &payments);
     let also = c.refusal;
     if also != 0 {
         return no_judgement(11);

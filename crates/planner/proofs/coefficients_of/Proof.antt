@@ -12,10 +12,10 @@ use Rattle.planner.proofs.coefficients_of.Statement.{statement}
 use Rattle.planner.proofs.coefficients_of.Tie as tie
 
 abbrev Inv-loop : tie.InvT-loop
-Inv-loop r w i n years q payments k₀ j₀ k j = Funded (sharesOf r) (ratesOf i) (flowsIn payments) years n k j
+Inv-loop payments r w i n years q k₀ j₀ k j = Funded (sharesOf r) (ratesOf i) (flowsIn payments) years n k j
 
 abbrev μ-loop : tie.MeasureT-loop
-μ-loop r w i n years q payments k₀ j₀ k j = n - j
+μ-loop payments r w i n years q k₀ j₀ k j = n - j
 
 loop-holds : tie.Need-loop-holds Inv-loop μ-loop
 loop-holds c = funds-start _ _ _ _ _
@@ -23,28 +23,28 @@ loop-holds c = funds-start _ _ _ _ _
 j-few : (c : tie.In-loop Inv-loop μ-loop) → c .before .loop .j < 16
 j-few c = omega (arith, c .before .before .pre .1 .0 .few)
 
-mul-row : tie.Need-mul-row Inv-loop μ-loop
-mul-row c = omega (arith, j-few c)
+mul-fund : tie.Need-mul-fund Inv-loop μ-loop
+mul-fund c = omega (arith, j-few c)
 
-array-copy-out-row : tie.Need-array-copy-out-row Inv-loop μ-loop
-array-copy-out-row c = j-few c
+index-1-fund : tie.Need-index-1-fund Inv-loop μ-loop
+index-1-fund c = j-few c
 
 fund-requires : tie.Need-fund-requires Inv-loop μ-loop
 fund-requires c κs =
-    let o = c .before .before .before in
+    let o = c .before in
     let s = o .before .before .pre in
     (s .0, (s .1 .0 .amounts _ (o .loop-test .taken), s .1 .1))
 
 returns : tie.Need-returns Inv-loop μ-loop
 returns c =
-    let o = c .before .before .before .before .before in
+    let o = c .before .before .before in
     funds-refuse _ _ _ _ _ (o .loop-test .taken) (c .before .fund .ensures .0) (c .if1 .taken)
 
 mul-k : tie.Need-mul-k Inv-loop μ-loop
-mul-k c = omega (arith, j-few (c .before .before .before .before .before .before))
+mul-k c = omega (arith, j-few (c .before .before .before .before))
 
 array-set-from-k : tie.Need-array-set-from-k Inv-loop μ-loop
-array-set-from-k c = j-few (c .before .before .before .before .before .before)
+array-set-from-k c = j-few (c .before .before .before .before)
 
 add-j : tie.Need-add-j Inv-loop μ-loop
 add-j c = omega arith
@@ -55,7 +55,7 @@ loop-less c = omega arith
 loop-again : tie.Need-loop-again Inv-loop μ-loop
 loop-again c =
     let o = c .before .before in
-    let t = o .before .before .before .before in
+    let t = o .before .before in
     let f : SFits w64 (o .fund .result .fund) = search (needs, c .struct-told .given) in
     simp back (funds-turn _ _ _ _ _ (t .loop-test .taken) (o .fund .ensures .0) (t .before .before .pre .1 .0 .few) (t .before .loop .inv) (c .before .if1 .left))
 
@@ -69,8 +69,8 @@ coefficients-of-spec =
     Inv-loop
     μ-loop
     loop-holds
-    mul-row
-    array-copy-out-row
+    mul-fund
+    index-1-fund
     fund-requires
     returns
     mul-k

@@ -8,33 +8,54 @@ use mir.Val.{SFits}
 use Rattle.whole.specs.Range.{million}
 use Rattle.whole.specs.Floor.{floor}
 use Rattle.whole.proofs.Range.{within-more, back, ok64}
+use Rattle.reckoning.specs.Reckoning.{paid}
 use Rattle.plan.specs.Numbers.{outflowAt, numbers}
 use Rattle.plan.specs.declared.Plan.{Plan}
 use Rattle.plan.proofs.Numbers.{outflow-is}
 use Rattle.planner.specs.Calls.{flowOf}
 use Rattle.planner.specs.Arrays.{flowArray}
 use Rattle.planner.proofs.Held.{paid-within}
-use Rattle.planner.proofs.ArrayLoops.{Filling, fill-start, fill-turn, fill-end, flow-is, flow-fits}
+use Rattle.planner.proofs.ArrayLoops.{Filling, fill-start, fill-turn, fill-end, column-weighable, column-paid, flow-is, flow-fits}
 use Rattle.planner.proofs.flow_of.Statement.{statement}
 use Rattle.planner.proofs.flow_of.Tie as tie
 
 abbrev Inv-loop : tie.InvT-loop
-Inv-loop plan years v₀ k₀ v k = Filling 30 (plan .years) (λ k. flowOf (numbers plan) (1 + k)) (pos 0) v k
+Inv-loop payments plan years n p v₀ k₀ v k = Filling 30 (plan .years) (λ k. flowOf (numbers plan) (1 + k)) (pos 0) v k
 
 abbrev μ-loop : tie.MeasureT-loop
-μ-loop plan years v₀ k₀ v k = plan .years - k
+μ-loop payments plan years n p v₀ k₀ v k = plan .years - k
 
 loop-holds : tie.Need-loop-holds Inv-loop μ-loop
 loop-holds c = fill-start
 
-paid-requires : tie.Need-paid-requires Inv-loop μ-loop
-paid-requires c κs = (c .before .before .pre, c .loop-test .taken)
+column-requires : tie.Need-column-requires Inv-loop μ-loop
+column-requires c κs = let h = c .before .before .before .pre .0 .head in (h .instruments-few, omega (arith, h .years-few))
 
-s-fits : (c : tie.After-paid Inv-loop μ-loop) → SFits w64 (c .paid .result)
-s-fits c = ok64 (c .paid .result) (c .paid .ok)
+weighted-requires : tie.Need-weighted-requires Inv-loop μ-loop
+weighted-requires c κs = let s = c .before .before .before .before .pre in column-weighable _ (s .0) (s .1) (c .before .loop-test .taken) (c .column .ensures)
+
+-- what the allocation pays in a year
+module _ (c : tie.After-weighted Inv-loop μ-loop) where
+  abbrev turn : tie.In-loop Inv-loop μ-loop
+  turn = c .before .before
+
+  abbrev start : tie.Start Inv-loop μ-loop
+  start = turn .before .before .before
+
+  abbrev plan : Plan
+  plan = start .args .t1
+
+  abbrev k : ℕ
+  k = turn .before .loop .k
+
+  paid-is : c .weighted .result ≡ paid (plan .instruments) (numbers plan .a) (numbers plan .p) (1 + k)
+  paid-is = column-paid plan (start .pre .0) (start .pre .1) (turn .loop-test .taken) (c .before .column .ensures) (c .weighted .ensures)
+
+  paid-fits : SFits w64 (c .weighted .result)
+  paid-fits = ok64 (c .weighted .result) (c .weighted .ok)
 
 down-requires : tie.Need-down-requires Inv-loop μ-loop
-down-requires c κs = simp (back, s-fits c) (rw (c .paid .ensures) (within-more (omega arith) (paid-within (c .before .before .before .pre) _)))
+down-requires c κs = simp (back, paid-fits c) (rw (paid-is c) (within-more (omega arith) (paid-within (start c .pre .0) _)))
 
 mul-v : tie.Need-mul-v Inv-loop μ-loop
 mul-v c = omega arith
@@ -42,31 +63,28 @@ mul-v c = omega arith
 element-copy-out-v : tie.Need-element-copy-out-v Inv-loop μ-loop
 element-copy-out-v c = omega arith
 
--- the flow of a year
+-- the flow of that year
 module _ (c : tie.After-v Inv-loop μ-loop) where
-  abbrev turn : tie.In-loop Inv-loop μ-loop
-  turn = c .before .before .before
+  abbrev w : tie.After-weighted Inv-loop μ-loop
+  w = c .before .before
 
-  abbrev plan : Plan
-  plan = turn .before .before .args .t1
-
-  abbrev k : ℕ
-  k = turn .before .loop .k
+  outflow : numbers (plan w) .o (1 + k w) ≡ outflowAt (plan w) (k w)
+  outflow = outflow-is (plan w) (k w) (turn w .loop-test .taken)
 
   z-fits : SFits w64 (c .before .down .result)
   z-fits = ok64 (c .before .down .result) (c .before .down .ok)
 
-  z-is : c .before .down .result ≡ floor (c .before .before .paid .result) million
-  z-is = simp (back, s-fits (c .before .before)) at (c .before .down .ensures)
+  z-is : c .before .down .result ≡ floor (w .weighted .result) million
+  z-is = simp (back, paid-fits w) at (c .before .down .ensures)
 
-  o-fits : SFits w64 (outflowAt plan k)
-  o-fits = ok64 (outflowAt plan k) (c .v .given)
+  o-fits : SFits w64 (outflowAt (plan w) (k w))
+  o-fits = ok64 (outflowAt (plan w) (k w)) (c .v .given)
 
-  year-is : c .before .down .result -ℤ outflowAt plan k ≡ flowOf (numbers plan) (1 + k)
-  year-is = flow-is (turn .before .before .pre) (outflow-is plan k (turn .loop-test .taken)) (c .before .before .paid .ensures) z-is
+  year-is : c .before .down .result -ℤ outflowAt (plan w) (k w) ≡ flowOf (numbers (plan w)) (1 + k w)
+  year-is = flow-is (start w .pre .0) outflow (paid-is w) z-is
 
-  year-fits : SFits w64 (c .before .down .result -ℤ outflowAt plan k)
-  year-fits = flow-fits (turn .before .before .pre) (outflow-is plan k (turn .loop-test .taken)) (c .before .before .paid .ensures) z-is
+  year-fits : SFits w64 (c .before .down .result -ℤ outflowAt (plan w) (k w))
+  year-fits = flow-fits (start w .pre .0) outflow (paid-is w) z-is
 
 sub-v : tie.Need-sub-v Inv-loop μ-loop
 sub-v c = simp (back, z-fits c, o-fits c) (year-fits c)
@@ -85,8 +103,8 @@ loop-less c = omega arith
 
 loop-again : tie.Need-loop-again Inv-loop μ-loop
 loop-again c =
-    let t = turn c in
-    simp (back, z-fits c, o-fits c, year-fits c) (fill-turn (t .before .before .pre .head .years-few) (t .loop-test .taken) (t .before .loop .inv) (year-is c))
+    let t = turn (w c) in
+    simp (back, z-fits c, o-fits c, year-fits c) (fill-turn (start (w c) .pre .0 .head .years-few) (t .loop-test .taken) (t .before .loop .inv) (year-is c))
 
 returns : tie.Need-returns Inv-loop μ-loop
 unfolding flowArray
@@ -99,7 +117,8 @@ flow-of-spec =
     Inv-loop
     μ-loop
     loop-holds
-    paid-requires
+    column-requires
+    weighted-requires
     down-requires
     mul-v
     element-copy-out-v

@@ -27,20 +27,36 @@ module _ (c : tie.Else1) where
   ok : Called (c .before .before .args .plan) (c .before .before .args .t)
   ok = called _ _ none
 
+payments-of-requires : tie.Need-payments-of-requires
+payments-of-requires c κs = ok c .plan-ok
+
 common-of-requires : tie.Need-common-of-requires
-common-of-requires c κs = ok c .plan-ok
+common-of-requires c κs = (ok (c .before .before) .plan-ok, c .before .payments-of .ensures)
 
 rates-of-requires : tie.Need-rates-of-requires
-rates-of-requires c κs = let o = ok (c .before) in (o .plan-ok, (o .some, o .few))
+rates-of-requires c κs = let o = ok (c .before .before .before) in (o .plan-ok, (o .some, o .few))
+
+-- what was prepared of the plan
+module _ (c : tie.After-i) where
+  abbrev rated : tie.After-rates-of
+  rated = c .before .before
+
+  abbrev shared : tie.After-common-of
+  shared = rated .before
+
+  abbrev paid : tie.After-payments-of
+  paid = shared .before .before
 
 form-at-requires : tie.Need-form-at-requires
-form-at-requires c κs = let o = ok (c .before .before) in (o .plan-ok, (c .before .common-of .ensures, pattern-rates _ _ o (c .rates-of .ensures)))
+form-at-requires c κs =
+    let o = ok (paid c .before) in
+    (o .plan-ok, (shared c .common-of .ensures, (paid c .payments-of .ensures, pattern-rates _ _ o (rated c .rates-of .ensures))))
 
 returns-2 : tie.Need-returns-2
 unfolding formAnswer
 returns-2 c =
-    let e = c .before .before .before in
-    form-answered _ _ (out-accepted noForm (none e) (c .form-at .ensures ∙ ap (formReckoned _) (pattern-held _ _ (ok e) (c .before .rates-of .ensures))))
+    let e = paid (c .before) .before in
+    form-answered _ _ (out-accepted noForm (none e) (c .form-at .ensures ∙ ap (formReckoned _) (pattern-held _ _ (ok e) (rated (c .before) .rates-of .ensures))))
 
 pub form-spec : {M : Type 1} → statement M
 form-spec =
@@ -49,6 +65,7 @@ form-spec =
     call-refusal-requires
     no-form-requires
     returns
+    payments-of-requires
     common-of-requires
     rates-of-requires
     form-at-requires

@@ -34,8 +34,11 @@ weights-requires c κs = rw (c .rollover-of .ensures) (terms _ (ok (c .before) .
 rates-of-requires : tie.Need-rates-of-requires
 rates-of-requires c κs = let o = ok (c .before .before) in (o .plan-ok, (o .some, o .few))
 
+payments-of-requires : tie.Need-payments-of-requires
+payments-of-requires c κs = ok (c .before .before .before) .plan-ok
+
 flow-of-requires : tie.Need-flow-of-requires
-flow-of-requires c κs = ok (c .before .before .before) .plan-ok
+flow-of-requires c κs = (ok (c .before .before .before .before .before) .plan-ok, c .before .payments-of .ensures)
 
 -- the arrays, prepared
 module _ (c : tie.After-i) where
@@ -43,7 +46,7 @@ module _ (c : tie.After-i) where
   flowed = c .before .before .before .before
 
   abbrev rated : tie.After-rates-of
-  rated = flowed .before
+  rated = flowed .before .before .before
 
   abbrev rolled : tie.After-rollover-of
   rolled = rated .before .before
@@ -71,6 +74,7 @@ fund-spec =
     rollover-of-requires
     weights-requires
     rates-of-requires
+    payments-of-requires
     flow-of-requires
     fund-requires
     returns-2)

@@ -26,11 +26,18 @@ module _ (c : tie.Else1) where
   ok : Accepted (numbers (c .before .before .args .plan))
   ok = accepted _ none
 
+payments-of-requires : tie.Need-payments-of-requires
+payments-of-requires c κs = ok c
+
 common-of-requires : tie.Need-common-of-requires
-common-of-requires c κs = ok c
+common-of-requires c κs = (ok (c .before .before), c .before .payments-of .ensures)
 
 rows-of-requires : tie.Need-rows-of-requires
-rows-of-requires c κs = (ok (c .before), c .common-of .ensures)
+rows-of-requires c κs = let p = c .before .before .before in (ok (p .before), (c .before .common-of .ensures, p .payments-of .ensures))
+
+-- the plan that the rows were reckoned of
+abbrev accepted-at : tie.After-rows-of → tie.Else1
+accepted-at c = c .before .before .before .before .before
 
 no-judgement-requires-2 : tie.Need-no-judgement-requires-2
 no-judgement-requires-2 c κs = search needs
@@ -38,15 +45,15 @@ no-judgement-requires-2 c κs = search needs
 returns-2 : tie.Need-returns-2
 returns-2 c =
     let r = c .before .before in
-    c .no-judgement2 .ensures ∙ judge-refused _ (pattern-refuses _ (none (r .before .before)) (r .rows-of .ensures) (c .before .if2 .taken)) (λ z. omega arith)
+    c .no-judgement2 .ensures ∙ judge-refused _ (pattern-refuses _ (none (accepted-at r)) (r .rows-of .ensures) (c .before .if2 .taken)) (λ z. omega arith)
 
 verdict-of-requires : tie.Need-verdict-of-requires
-verdict-of-requires c κs = ok (c .before .before .before .before) .head .patterns-few
+verdict-of-requires c κs = ok (accepted-at (c .before .before)) .head .patterns-few
 
 returns-3 : tie.Need-returns-3
 returns-3 c =
     let r = c .before .before .before in
-    let e = r .before .before in
+    let e = accepted-at r in
     let left = c .before .before .if2 .left in
     judged _ (ok e .head .patterns-few) (rows-are _ (r .rows-of .ensures) left) (c .verdict-of .ensures) (none-refuses _ (none e) (r .rows-of .ensures) left)
 
@@ -57,6 +64,7 @@ judge-spec =
     refusal-requires
     no-judgement-requires
     returns
+    payments-of-requires
     common-of-requires
     rows-of-requires
     no-judgement-requires-2

@@ -1,11 +1,10 @@
 -- `planner::payments_of` fills in a row for each instrument (ArrayLoops, `Filling`).
-use mathlib.Core.Path.{_≡_, sym, ap, _∙_}
-use mathlib.Core.List.{List}
+use mathlib.Core.Path.{_≡_, sym, _∙_}
 use Prim.Native.Nat.{ℕ, _-_}
 use native.Mathlib.Omega.{arith}
-use lib.IntN.{ℤ, pos}
+use lib.ListN.{replicate}
+use lib.IntN.{pos}
 use Rattle.whole.proofs.Table.{table-cong}
-use Rattle.reckoning.specs.Arrays.{noRow}
 use Rattle.plan.specs.Numbers.{numbers}
 use Rattle.plan.specs.declared.Plan.{Plan}
 use Rattle.plan.proofs.Numbers.{payment-is}
@@ -15,7 +14,7 @@ use Rattle.planner.proofs.payments_of.Statement.{statement}
 use Rattle.planner.proofs.payments_of.Tie as tie
 
 abbrev Inv-loop : tie.InvT-loop
-Inv-loop plan n years rows₀ j₀ rows j = Filling 16 (plan .instruments) (paymentsRow (numbers plan)) noRow rows j
+Inv-loop plan n years rows₀ j₀ rows j = Filling 16 (plan .instruments) (paymentsRow (numbers plan)) (replicate 30 (pos 0)) rows j
 
 abbrev μ-loop : tie.MeasureT-loop
 μ-loop plan n years rows₀ j₀ rows j = plan .instruments - j
@@ -43,9 +42,9 @@ module _ (c : tie.After-cut Inv-loop μ-loop) where
   abbrev j : ℕ
   j = turn .before .loop .j
 
-  row-is : record { values = c .cut .result } ≡ paymentsRow (numbers plan) j
+  row-is : c .cut .result ≡ paymentsRow (numbers plan) j
   unfolding paymentsRow
-  row-is = ap (λ (v : List ℤ). record { values = v }) (c .cut .ensures ∙ table-cong 30 (plan .years) _ _ (pos 0) (λ k l. sym (payment-is plan j k (turn .loop-test .taken) l)))
+  row-is = c .cut .ensures ∙ table-cong 30 (plan .years) _ _ (pos 0) (λ k l. sym (payment-is plan j k (turn .loop-test .taken) l))
 
 mul-rows : tie.Need-mul-rows Inv-loop μ-loop
 mul-rows c = omega arith

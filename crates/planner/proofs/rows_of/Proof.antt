@@ -13,10 +13,10 @@ use Rattle.planner.proofs.rows_of.Statement.{statement}
 use Rattle.planner.proofs.rows_of.Tie as tie
 
 abbrev Inv-loop : tie.InvT-loop
-Inv-loop plan m n years q flow outflow payments r w none rows₀ t₀ rows t = Rowed (numbers plan) rows t
+Inv-loop payments plan m n years q flow outflow r w none rows₀ t₀ rows t = Rowed (numbers plan) rows t
 
 abbrev μ-loop : tie.MeasureT-loop
-μ-loop plan m n years q flow outflow payments r w none rows₀ t₀ rows t = plan .patterns - t
+μ-loop payments plan m n years q flow outflow r w none rows₀ t₀ rows t = plan .patterns - t
 
 no-pattern-requires : tie.Need-no-pattern-requires Inv-loop μ-loop
 no-pattern-requires c κs = search needs
@@ -27,7 +27,7 @@ loop-holds c = rw (c .no-pattern .ensures) (rows-start _)
 -- in the loop: the pattern at t
 module _ (c : tie.In-loop Inv-loop μ-loop) where
   abbrev start : tie.Start Inv-loop μ-loop
-  start = c .before .before .before .before .before .before .before .before
+  start = c .before .before .before .before .before .before .before
 
   abbrev t : ℕ
   t = c .before .loop .t
@@ -62,7 +62,7 @@ row-at-requires : tie.Need-row-at-requires Inv-loop μ-loop
 row-at-requires c κs =
     let r = c .before .before .before .before .before in
     let s = start (turn r) .pre in
-    (common-ready _ (s .0) (s .1) (pattern-rates _ _ (ok (turn r)) (rates-are r)), (common-flows _ (s .0) (s .1), years _ (s .0)))
+    (common-ready _ (s .0) (s .1 .0) (s .1 .1) (pattern-rates _ _ (ok (turn r)) (rates-are r)), (common-flows _ (s .0) (s .1 .0) (s .1 .1), years _ (s .0)))
 
 -- its row
 module _ (c : tie.After-row-at Inv-loop μ-loop) where
@@ -73,7 +73,7 @@ module _ (c : tie.After-row-at Inv-loop μ-loop) where
   now-at = turn rated
 
   row-of : c .row-at .result ≡ rowReckoned (numbers (start now-at .args .t1)) (1 + t now-at)
-  row-of = let s = start now-at .pre in c .row-at .ensures ∙ row-is _ (s .0) (s .1) (1 + t now-at) (pattern-held _ _ (ok now-at) (rates-are rated))
+  row-of = let s = start now-at .pre in c .row-at .ensures ∙ row-is _ (s .0) (s .1 .0) (s .1 .1) (1 + t now-at) (pattern-held _ _ (ok now-at) (rates-are rated))
 
 returns : tie.Need-returns Inv-loop μ-loop
 returns c =

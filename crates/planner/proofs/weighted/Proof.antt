@@ -1,4 +1,4 @@
--- `planner::weighted` adds each coefficient times its part (Weighing).
+-- `planner::weighted` adds each amount times its part (Weighing).
 use mathlib.Core.Path.{refl}
 use Prim.Native.Nat.{ℕ, _-_, _<_}
 use native.Mathlib.Omega.{arith}
@@ -51,7 +51,7 @@ module _ (c : tie.After-s Inv-loop μ-loop) where
   p-fits = ok64 (c .before .wide .result) (c .before .wide .ok)
 
   k-fits : SFits w64 (getD (start .args .t1) j (pos 0))
-  k-fits = within-fits (omega arith) (start .pre .coefficient j (c .before .before .loop-test .taken))
+  k-fits = within-fits (omega arith) (start .pre .amount j (c .before .before .loop-test .taken))
 
   z-fits : SFits w64 (getD (start .args .t1) j (pos 0) *ℤ c .before .wide .result)
   z-fits = product-fits (weighable-parts (start .pre)) (c .before .before .loop-test .taken) refl (c .before .wide .ensures)
