@@ -41,9 +41,9 @@ module _ (s : List ℕ) where
   unfolding firstOk place
   first-found k a e n = rw (next-known s 0 k a e n .whole, ← kind-next s 0 k a e n, ← length-next s 0 k a e n)
 
-  pub first-missing : nextAt s 0 ≡ Stop → firstOk s ≡ false
+  pub first-missing : (l : ℕ) → nextAt s 0 ≡ Stop l → firstOk s ≡ false
   unfolding firstOk
-  first-missing n = rw (next-none s 0 n)
+  first-missing l n = rw (next-none s 0 l n .0)
 
   -- what a file that passes has
   module _ (e : firstOk s ≡ true) where
@@ -69,9 +69,9 @@ module _ (s : List ℕ) (h : Head) where
     unfolding kindOk
     kind-found k a e n = rw (next-known s (place s t) k a e n .whole, ← kind-next s t k a e n)
 
-    pub kind-missing : nextAt s (place s t) ≡ Stop → kindOk s h t ≡ false
+    pub kind-missing : (l : ℕ) → nextAt s (place s t) ≡ Stop l → kindOk s h t ≡ false
     unfolding kindOk
-    kind-missing n = rw (next-none s (place s t) n)
+    kind-missing l n = rw (next-none s (place s t) l n .0)
 
     pub kinds-fail : t < length (kindsOf h) → kindOk s h t ≡ false → kindsOk s h ≡ false
     unfolding kindsOk
@@ -96,8 +96,8 @@ module _ (s : List ℕ) (h : Head) where
     unfolding kindOk
     kind-there = eqb-true _ _ (both-second (wholeAt s (place s t)) _ passed-4)
 
-    pub none-missing : nextAt s (place s t) ≡ Stop → ⊥
-    none-missing n = false-true (sym (next-none s (place s t) n) ∙ whole-there)
+    pub none-missing : (l : ℕ) → nextAt s (place s t) ≡ Stop l → ⊥
+    none-missing l n = false-true (sym (next-none s (place s t) l n .0) ∙ whole-there)
 
     -- ---- check 5
     -- record t by what the cursor finds

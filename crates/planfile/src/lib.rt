@@ -87,7 +87,7 @@ fn first_ok(file: &[u8]) -> bool
             }
             ranges_ok(head_at(file))
         }
-        Next::Stop => false,
+        Next::Stop { left: _ } => false,
     }
 }
 
@@ -157,7 +157,7 @@ fn kinds_ok(file: &[u8], h: Head) -> bool
                 }
                 at = end;
             }
-            Next::Stop => {
+            Next::Stop { left: _ } => {
                 return false;
             }
         }
@@ -182,7 +182,7 @@ fn sizes_ok(file: &[u8], h: Head) -> bool
                 }
                 at = end;
             }
-            Next::Stop => {
+            Next::Stop { left: _ } => {
                 return false;
             }
         }
@@ -324,7 +324,7 @@ fn plan_with(file: &[u8], h: Head) -> Plan
                 plan = with_body(plan, h, t, kind, &file[start..end]);
                 at = end;
             }
-            Next::Stop => {
+            Next::Stop { left: _ } => {
                 return plan;
             }
         }

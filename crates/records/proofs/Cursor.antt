@@ -7,8 +7,8 @@ use Prim.Native.Nat.{ℕ, zero, suc, _+_, _-_, _≤_, _<_}
 use native.Mathlib.Nat.{add-assoc}
 use native.Mathlib.Numerals.{add-one}
 use native.Mathlib.Omega.{arith}
-use borrow.Author.Tests.{le-ltb, lt-ltb, le-leb, lt-leb, leb-true}
-use lib.Dec.{leb, ltb}
+use borrow.Author.Tests.{le-ltb, lt-ltb, le-leb, lt-leb, leb-true, eq-eqb, ne-eqb}
+use lib.Dec.{leb, ltb, eqb}
 use lib.ListN.{length, getD, take, drop, length-drop}
 use lib.Seq.{length-take-le, take-add, take-length, drop-drop}
 use Rattle.whole.specs.Test.{pick, both}
@@ -46,7 +46,7 @@ module _ (s : List ℕ) (at : ℕ) where
   unfolding nextAt
   next-record h = rw h
 
-  pub next-stop : wholeAt s at ≡ false → nextAt s at ≡ Stop
+  pub next-stop : wholeAt s at ≡ false → nextAt s at ≡ Stop (length s - at)
   unfolding nextAt
   next-stop h = rw h
 
@@ -71,12 +71,12 @@ module _ (s : List ℕ) (at : ℕ) where
           record { kind = ek; start = ea; end = ee; fits = omega (arith, whole-end s at w); whole = w }
       go false w = let i = next-stop s at w in let z : _≡_ {A = ℕ} 0 1 = cc in absurd (omega arith)
 
-  pub next-none : nextAt s at ≡ Stop → wholeAt s at ≡ false
-  next-none n = go (wholeAt s at) refl
+  pub next-none : (l : ℕ) → nextAt s at ≡ Stop l → (wholeAt s at ≡ false) × (l ≡ length s - at)
+  next-none l n = go (wholeAt s at) refl
     where
-      go : (b : Bool) → wholeAt s at ≡ b → wholeAt s at ≡ false
+      go : (b : Bool) → wholeAt s at ≡ b → (wholeAt s at ≡ false) × (l ≡ length s - at)
       go true w = let i = next-record s at w in let z : _≡_ {A = ℕ} 0 1 = cc in absurd (omega arith)
-      go false w = w
+      go false w = let i = next-stop s at w in let e : l ≡ length s - at = cc in (w, e)
 
 -- ---- record t
 pub place-none : (s : List ℕ) → place s 0 ≡ 0
@@ -157,8 +157,17 @@ module _ (s : List ℕ) where
     pub rest-next : wholeAt s at ≡ true → restWhole s at ≡ restWhole s (endFrom s at)
     rest-next w = rest-more ∙ ap (λ (b : Bool). both b (restWhole s (endFrom s at))) w
 
-    pub rest-stop : wholeAt s at ≡ false → restWhole s at ≡ false
-    rest-stop w = rest-more ∙ ap (λ (b : Bool). both b (restWhole s (endFrom s at))) w
+    rest-cut : wholeAt s at ≡ false → restWhole s at ≡ false
+    rest-cut w = rest-more ∙ ap (λ (b : Bool). both b (restWhole s (endFrom s at))) w
+
+-- where no record is found, the rest is whole just where nothing is left
+pub rest-stop : (s : List ℕ) (at l : ℕ) → nextAt s at ≡ Stop l → restWhole s at ≡ eqb l 0
+rest-stop s at l n =
+    let none = next-none s at l n in
+    ⊎-elim
+    (λ (h : at < length s). rest-cut s at h (none .0) ∙ sym (ne-eqb l 0 (λ e. absurd (omega (arith, none .1)))))
+    (λ (h : length s ≤ at). rest-none s at h ∙ sym (eq-eqb l 0 (omega (arith, none .1))))
+    (ℕ-cases at (length s))
 
 -- the file is c whole records, and nothing else
 pub record Consists (s : List ℕ) (c : ℕ) : Type 0 where

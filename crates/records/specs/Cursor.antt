@@ -1,7 +1,7 @@
 -- Records taken off from the front of a file s, whose place 0 is its first byte.
 use mathlib.Core.Bool.{Bool, true}
 use mathlib.Core.List.{List}
-use Prim.Native.Nat.{ℕ, zero, suc, _+_}
+use Prim.Native.Nat.{ℕ, zero, suc, _+_, _-_}
 use lib.Dec.{leb, ltb}
 use lib.ListN.{length, take, drop}
 use Rattle.whole.specs.Test.{pick, both}
@@ -20,9 +20,9 @@ endFrom s at = at + 4 + sizeFrom s at
 unfoldable pub wholeAt : List ℕ → (at : ℕ) → Bool
 wholeAt s at = both (leb (at + 4) (length s)) (leb (endFrom s at) (length s))
 
--- the record at a place: its kind, and where its body starts and ends
+-- the record at a place: its kind, and where its body starts and ends; or how many bytes are left, which are no record
 unfoldable pub nextAt : List ℕ → (at : ℕ) → Next
-nextAt s at = pick (wholeAt s at) (Record (leAt 2 (at + 2) s) (at + 4) (endFrom s at)) Stop
+nextAt s at = pick (wholeAt s at) (Record (leAt 2 (at + 2) s) (at + 4) (endFrom s at)) (Stop (length s - at))
 
 -- check 2: from a place on, whole records end with the file. A record takes 4 bytes at least, so the length counts enough.
 unfoldable pub wholeFrom : (count : ℕ) → List ℕ → (at : ℕ) → Bool

@@ -2,32 +2,37 @@
 ghost use mathlib.Core.Path.{_≡_};
 ghost use Rattle.records.specs.Cursor.{nextAt, wholeFile};
 
-// What stands at a place of a file: a whole record, with the start and the end of its body, or none.
+// What stands at a place of a file: a whole record, by its kind and by the start and the end of its body, where the next place is;
+// or none, and how many bytes are left, which says why: 0 at the end of the file, 1 to 3 where the front of a record is cut off,
+// more where its body is.
 pub enum Next {
     Record {
         kind: usize,
         start: usize,
         end: usize,
     },
-    Stop,
+    Stop {
+        left: usize,
+    },
 }
 
 // The record at a place.
 pub fn next_at(file: &[u8], at: usize) -> Next
     ensures { λ r. ⌜ r ≡ nextAt (now (file .entry)) at ⌝ }
 {
-    if file.len() < 4 {
-        return Next::Stop;
+    if file.len() < at {
+        return Next::Stop { left: 0 };
     }
-    if file.len() - 4 < at {
-        return Next::Stop;
+    let left = file.len() - at;
+    if left < 4 {
+        return Next::Stop { left };
     }
     let size = little_endian::u16_at(file, at) as usize;
     let kind = little_endian::u16_at(file, at + 2) as usize;
-    let start = at + 4;
-    if file.len() - start < size {
-        return Next::Stop;
+    if left - 4 < size {
+        return Next::Stop { left };
     }
+    let start = at + 4;
     Next::Record {
         kind,
         start,
@@ -40,7 +45,7 @@ pub fn whole_file(file: &[u8]) -> bool
     ensures { λ b. ⌜ b ≡ wholeFile (now (file .entry)) ⌝ }
 {
     let mut at = 0;
-    while at < file.len() {
+    loop {
         let next = next_at(file, at);
         match next {
             Next::Record {
@@ -50,10 +55,9 @@ pub fn whole_file(file: &[u8]) -> bool
             } => {
                 at = end;
             }
-            Next::Stop => {
-                return false;
+            Next::Stop { left } => {
+                return left == 0;
             }
         }
     }
-    true
 }

@@ -68,7 +68,7 @@ returns-3 c =
     (c .ranges-ok .ensures ∙ ap rangesOk (c .before .head-at .ensures))
 
 returns-4 : tie.Need-returns-4
-returns-4 c = sym (first-missing (now (c .before .before .before .before .args .file)) (sym (c .before .before .next-at .ensures) ∙ c .enum-told .given .1))
+returns-4 c = sym (first-missing (now (c .before .before .before .before .args .file)) _ (sym (c .before .before .next-at .ensures) ∙ c .enum-told .given .1))
 
 pub first-ok-spec : {M : Type 1} → statement M
 first-ok-spec =

@@ -83,7 +83,7 @@ returns-2 c =
     let h = turn .before .before .before .args .h in
     let s = now (turn .before .before .before .args .file) in
     let missed = reached s (turn .loop .t) (turn .loop .inv .1) (c .before .before .next-at .ensures) (c .enum-told .given .1) in
-    sym (kinds-fail s h (turn .loop .t) (omega arith) (kind-missing s h (turn .loop .t) missed))
+    sym (kinds-fail s h (turn .loop .t) (omega arith) (kind-missing s h (turn .loop .t) _ missed))
 
 add-t : tie.Need-add-t Inv-loop μ-loop
 add-t c = search needs

@@ -105,7 +105,7 @@ returns c =
     let first = turn .before .before .before .before in
     let s = now (first .args .file) in
     let missed = reached s (turn .loop .t) (turn .loop .inv .1) (c .before .before .next-at .ensures) (c .enum-told .given .1) in
-    absurd (none-missing s (first .args .h) (first .pre .kinds) (turn .loop .t) (omega arith) missed)
+    absurd (none-missing s (first .args .h) (first .pre .kinds) (turn .loop .t) (omega arith) _ missed)
 
 add-t : tie.Need-add-t Inv-loop μ-loop
 add-t c = search needs

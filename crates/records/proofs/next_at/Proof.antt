@@ -1,19 +1,21 @@
 -- Each way out says whether the record's end is in the file: the first two because its four bytes are not.
-use mathlib.Core.Path.{sym, ap₂, _∙_}
+use mathlib.Core.Path.{sym, ap, ap₂, _∙_}
 use Prim.Native.Nat.{ℕ, _+_}
 use native.Mathlib.Omega.{arith}
 use borrow.Author.Needs.{needs}
 use denote.Ref.{now}
-use Rattle.records.specs.declared.Next.the-variants.{Record}
+use Rattle.records.specs.declared.Next.the-variants.{Record, Stop}
 use Rattle.records.proofs.Cursor.{whole-yes, whole-no, next-record, next-stop}
 use Rattle.records.proofs.next_at.Statement.{statement}
 use Rattle.records.proofs.next_at.Tie as tie
 
 returns : tie.Need-returns
-returns c = let a = c .before .before .args in sym (next-stop (now (a .file)) (a .at) (whole-no _ _ (omega arith)))
+returns c =
+    let a = c .before .before .args in
+    ap Stop (omega arith) ∙ sym (next-stop (now (a .file)) (a .at) (whole-no _ _ (omega arith)))
 
-sub-if2 : tie.Need-sub-if2
-sub-if2 c = search needs
+sub-left : tie.Need-sub-left
+sub-left c = search needs
 
 returns-2 : tie.Need-returns-2
 returns-2 c = let a = c .before .before .before .args in sym (next-stop (now (a .file)) (a .at) (whole-no _ _ (omega arith)))
@@ -33,20 +35,17 @@ u16-at-requires-2 c κs = search needs
 cast-kind : tie.Need-cast-kind
 cast-kind c = search needs
 
-add-start : tie.Need-add-start
-add-start c = search needs
-
-sub-if3 : tie.Need-sub-if3
-sub-if3 c = search needs
-
 returns-3 : tie.Need-returns-3
 returns-3 c =
     let a = c .before .before .before .before .before .before .args in
     let size = c .before .before .u16-at .ensures in
     sym (next-stop (now (a .file)) (a .at) (whole-no _ _ (omega arith)))
 
-add-t8 : tie.Need-add-t8
-add-t8 c = search needs
+add-start : tie.Need-add-start
+add-start c = search needs
+
+add-t7 : tie.Need-add-t7
+add-t7 c = search needs
 
 returns-4 : tie.Need-returns-4
 returns-4 c =
@@ -60,15 +59,14 @@ next-at-spec =
     tie.close
     (tie.spec
     returns
-    sub-if2
+    sub-left
     returns-2
     u16-at-requires
     cast-size
     add-u16-at
     u16-at-requires-2
     cast-kind
-    add-start
-    sub-if3
     returns-3
-    add-t8
+    add-start
+    add-t7
     returns-4)

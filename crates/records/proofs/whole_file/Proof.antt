@@ -8,7 +8,7 @@ use borrow.Author.Needs.{needs}
 use denote.Ref.{now}
 use lib.ListN.{length}
 use Rattle.records.specs.Cursor.{wholeFile}
-use Rattle.records.proofs.Cursor.{Known, next-known, next-none, restWhole, rest-all, rest-none, rest-next, rest-stop}
+use Rattle.records.proofs.Cursor.{Known, next-known, restWhole, rest-all, rest-next, rest-stop}
 use Rattle.records.proofs.whole_file.Statement.{statement}
 use Rattle.records.proofs.whole_file.Tie as tie
 
@@ -30,32 +30,28 @@ enum-known-next c = search needs
 -- a turn, from the record that was found
 module _ (c : tie.After-known-told Inv-loop μ-loop) where
   abbrev s : List ℕ
-  s = now (c .before .before .before .before .before .before .before .args .file)
+  s = now (c .before .before .before .before .before .before .args .file)
 
   abbrev at : ℕ
-  at = c .before .before .before .before .before .loop .at
+  at = c .before .before .before .before .loop .at
 
   found : Known s at (c .before .next .given .0 .0) (c .before .next .given .0 .1 .0) (c .before .next .given .0 .1 .1 .0)
   found = next-known s at _ _ _ (sym (c .before .before .before .next-at .ensures) ∙ c .before .next .given .1)
 
 loop-less : tie.Need-loop-less Inv-loop μ-loop
-loop-less c = omega (arith, found c .end)
+loop-less c = omega (arith, found c .end, found c .fits)
 
 loop-again : tie.Need-loop-again Inv-loop μ-loop
-loop-again c = rw (found c .end) (c .before .before .before .before .before .loop .inv ∙ rest-next (s c) (at c) (omega arith) (found c .whole))
+loop-again c = rw (found c .end) (c .before .before .before .before .loop .inv ∙ rest-next (s c) (at c) (omega (arith, found c .end, found c .fits)) (found c .whole))
 
-enum-told : tie.Need-enum-told Inv-loop μ-loop
-enum-told c = search needs
+enum-known-next-2 : tie.Need-enum-known-next-2 Inv-loop μ-loop
+enum-known-next-2 c = search needs
 
 returns : tie.Need-returns Inv-loop μ-loop
 returns c =
-    let at-loop = c .before .before .before .before in
-    let s = now (at-loop .before .before .args .file) in
-    let missed = next-none s (at-loop .loop .at) (sym (c .before .before .next-at .ensures) ∙ c .enum-told .given .1) in
-    sym (at-loop .loop .inv ∙ rest-stop s (at-loop .loop .at) (omega arith) missed)
-
-returns-2 : tie.Need-returns-2 Inv-loop μ-loop
-returns-2 c = let at-loop = c .before in sym (at-loop .loop .inv ∙ rest-none (now (at-loop .before .before .args .file)) (at-loop .loop .at) (omega arith))
+    let turn = c .before .before .before .before in
+    let s = now (turn .before .before .args .file) in
+    sym (turn .loop .inv ∙ rest-stop s (turn .loop .at) _ (sym (c .before .before .before .next-at .ensures) ∙ c .before .next2 .given .1))
 
 pub whole-file-spec : {M : Type 1} → statement M
 whole-file-spec =
@@ -68,6 +64,5 @@ whole-file-spec =
     enum-known-next
     loop-less
     loop-again
-    enum-told
-    returns
-    returns-2)
+    enum-known-next-2
+    returns)
