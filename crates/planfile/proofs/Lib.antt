@@ -1,6 +1,7 @@
 -- The laws of plan files: Runs of the numbers in a body, Places of the records of a plan and of their lengths, Checks and Filling
 -- of the reader, Wrote and WriteAnswers of the writer, Written and Again both round trips, Numbers the numbers that a file is read
--- as, Examples the case L.
+-- as, Examples the case L. Walk has the rules of the proofs by hand, over the cursor's `Reader`.
+mod Walk
 pub mod Runs
 pub mod Places
 pub mod Checks

@@ -4,7 +4,7 @@ use mathlib.Core.Bool.{true}
 use mathlib.Core.List.{List, [], _∷_}
 use Prim.Native.Nat.{ℕ, _+_, _-_, _≤_, _<_}
 use lib.IntN.{ℤ}
-use lib.ListN.{length, getD, set}
+use lib.ListN.{length, getD, set, take, drop}
 use Rattle.whole.specs.Entry.{nth}
 use Rattle.plan.specs.declared.Instrument.{Instrument}
 use Rattle.plan.specs.declared.Pattern.{Pattern}
@@ -12,6 +12,14 @@ use Rattle.plan.specs.declared.Plan.{Plan}
 use Rattle.planfile.specs.declared.Head.{Head}
 use Rattle.planfile.specs.Format.{kindsOf, sizeOf, headOf}
 use Rattle.planfile.specs.Read.{amountsIn, sharesIn, instrumentIn, patternIn, kindsOk, sizesOk}
+
+-- a file has the places from a start up to an end, and the bytes that stand there
+pub record Inside (s : List ℕ) (start end : ℕ) : Type 0 where
+  pub ordered : start ≤ end
+  pub fits : end ≤ length s
+
+abbrev pub partOf : List ℕ → (start end : ℕ) → List ℕ
+partOf s start end = take (end - start) (drop start s)
 
 -- a head that check 3 takes
 pub record InRange (h : Head) : Type 0 where

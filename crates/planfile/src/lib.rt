@@ -11,11 +11,12 @@ ghost use lib.ListN.{length, getD};
 ghost use lib.Seq.{sets};
 ghost use Rattle.little_endian.specs.LittleEndian.{bytesOf};
 ghost use Rattle.records.specs.Record.{recordBytes};
+ghost use Rattle.records.specs.Cursor.{nextAt, wholeFile};
 ghost use Rattle.plan.specs.Numbers.{numbers};
 ghost use Rattle.plan.specs.Refusal.{Head as HeadTaken};
 ghost use Rattle.planfile.specs.Format.{kindsOf, sizeOf, rec};
 ghost use Rattle.planfile.specs.Read.{amountsIn, sharesIn, noPlan, rangesOk, headAt, firstOk, kindsOk, sizesOk, planWith, layoutRefusal, readAnswer};
-ghost use Rattle.planfile.specs.Reading.{InRange, Laid, Due, withBody};
+ghost use Rattle.planfile.specs.Reading.{Inside, partOf, InRange, Laid, Due, withBody};
 ghost use Rattle.planfile.specs.Write.{fileOf, writeAnswer, bufferAfter};
 ghost use Rattle.planfile.specs.Parts.{amountsBytes, sharesBytes, headBytes, paymentsBytes, outflowsBytes, rolloverBytes, ratesBytes, allocationBytes, Room, Wrote};
 
@@ -37,17 +38,93 @@ pub struct WriteAnswer {
     pub length: usize,
 }
 
+// ---- the cursor
+
+// A file, and a place in it. A function over it takes it apart and leaves the work to one on the file and the place themselves.
+struct Reader<'a> {
+    file: &'a [u8],
+    at: usize,
+}
+
+// The reader at a place.
+fn reader_at<'a>(file: &'a [u8], at: usize) -> Reader<'a>
+    ensures { λ r. ⌜ r ≡ record { file = file .entry; at = at } ⌝ }
+{
+    Reader { file, at }
+}
+
+// The record at the reader's place.
+fn next<'a>(r: Reader<'a>) -> Next
+    ensures { λ n. ⌜ n ≡ nextAt (now (r .entry .file)) (r .entry .at) ⌝ }
+{
+    records::next_at(r.file, r.at)
+}
+
+// The body that starts at the reader's place, up to its end: a part of the file, for as long as the file is lent.
+fn body<'a>(r: Reader<'a>, end: usize) -> &'a [u8]
+    requires { ⌜ Inside (now (r .file)) (r .at) end ⌝ }
+    ensures { λ b. ⌜ now b ≡ partOf (now (r .entry .file)) (r .entry .at) end ⌝ }
+{
+    part(r.file, r.at, end)
+}
+
+// The bytes of a file from a start up to an end.
+fn part<'a>(file: &'a [u8], start: usize, end: usize) -> &'a [u8]
+    requires { ⌜ Inside (now file) start end ⌝ }
+    ensures { λ b. ⌜ now b ≡ partOf (now (file .entry)) start end ⌝ }
+{
+    &file[start..end]
+}
+
+// The record at a place of a file. Whatever looks for a record calls this.
+fn record_at(file: &[u8], at: usize) -> Next
+    ensures { λ n. ⌜ n ≡ nextAt (now (file .entry)) at ⌝ }
+{
+    next(reader_at(file, at))
+}
+
+// The body from a start up to an end. Whatever reads a body calls this.
+fn body_at<'a>(file: &'a [u8], start: usize, end: usize) -> &'a [u8]
+    requires { ⌜ Inside (now file) start end ⌝ }
+    ensures { λ b. ⌜ now b ≡ partOf (now (file .entry)) start end ⌝ }
+{
+    body(reader_at(file, start), end)
+}
+
 // ---- the reader
 
-// The four numbers of the first record.
+// Check 2: whole records end with the file.
+fn whole_file(file: &[u8]) -> bool
+    ensures { λ b. ⌜ b ≡ wholeFile (now (file .entry)) ⌝ }
+{
+    let mut at = 0;
+    loop {
+        let next = record_at(file, at);
+        match next {
+            Next::Record {
+                kind: _,
+                start: _,
+                end,
+            } => {
+                at = end;
+            }
+            Next::Stop { left } => {
+                return left == 0;
+            }
+        }
+    }
+}
+
+// The four numbers of the first record, in its body.
 fn head_at(file: &[u8]) -> Head
     requires { ⌜ 8 ≤ length (now file) ⌝ }
     ensures { λ h. ⌜ h ≡ headAt (now (file .entry)) ⌝ }
 {
-    let years = file[4] as usize;
-    let instruments = file[5] as usize;
-    let terms = file[6] as usize;
-    let patterns = file[7] as usize;
+    let body = body_at(file, 4, 8);
+    let years = body[0] as usize;
+    let instruments = body[1] as usize;
+    let terms = body[2] as usize;
+    let patterns = body[3] as usize;
     Head {
         years,
         instruments,
@@ -76,7 +153,7 @@ fn ranges_ok(h: Head) -> bool
 fn first_ok(file: &[u8]) -> bool
     ensures { λ b. ⌜ b ≡ firstOk (now (file .entry)) ⌝ }
 {
-    let next = records::next_at(file, 0);
+    let next = record_at(file, 0);
     match next {
         Next::Record { kind, start, end } => {
             if kind != 1 {
@@ -145,7 +222,7 @@ fn kinds_ok(file: &[u8], h: Head) -> bool
     let count = count(h);
     let mut at = 0;
     for t in 0..count {
-        let next = records::next_at(file, at);
+        let next = record_at(file, at);
         match next {
             Next::Record {
                 kind,
@@ -174,7 +251,7 @@ fn sizes_ok(file: &[u8], h: Head) -> bool
     let count = count(h);
     let mut at = 0;
     for t in 0..count {
-        let next = records::next_at(file, at);
+        let next = record_at(file, at);
         match next {
             Next::Record { kind, start, end } => {
                 if end - start != size_of(h, kind) {
@@ -197,7 +274,7 @@ fn layout_refusal(file: &[u8]) -> u8
     if file.len() > 16_384 {
         return 1;
     }
-    if !records::whole_file(file) {
+    if !whole_file(file) {
         return 2;
     }
     if !first_ok(file) {
@@ -318,10 +395,10 @@ fn plan_with(file: &[u8], h: Head) -> Plan
     let mut plan = no_plan();
     let mut at = 0;
     for t in 0..count {
-        let next = records::next_at(file, at);
+        let next = record_at(file, at);
         match next {
             Next::Record { kind, start, end } => {
-                plan = with_body(plan, h, t, kind, &file[start..end]);
+                plan = with_body(plan, h, t, kind, body_at(file, start, end));
                 at = end;
             }
             Next::Stop { left: _ } => {

@@ -1,6 +1,6 @@
 // Records taken off a file from its front.
 ghost use mathlib.Core.Path.{_≡_};
-ghost use Rattle.records.specs.Cursor.{nextAt, wholeFile};
+ghost use Rattle.records.specs.Cursor.{nextAt};
 
 // What stands at a place of a file: a whole record, by its kind and by the start and the end of its body, where the next place is;
 // or none, and how many bytes are left, which says why: 0 at the end of the file, 1 to 3 where the front of a record is cut off,
@@ -37,27 +37,5 @@ pub fn next_at(file: &[u8], at: usize) -> Next
         kind,
         start,
         end: start + size,
-    }
-}
-
-// Check 2: whole records end with the file.
-pub fn whole_file(file: &[u8]) -> bool
-    ensures { λ b. ⌜ b ≡ wholeFile (now (file .entry)) ⌝ }
-{
-    let mut at = 0;
-    loop {
-        let next = next_at(file, at);
-        match next {
-            Next::Record {
-                kind: _,
-                start: _,
-                end,
-            } => {
-                at = end;
-            }
-            Next::Stop { left } => {
-                return left == 0;
-            }
-        }
     }
 }

@@ -14,8 +14,8 @@ use Rattle.planfile.proofs.Checks.{first-found, first-missing}
 use Rattle.planfile.proofs.first_ok.Statement.{statement}
 use Rattle.planfile.proofs.first_ok.Tie as tie
 
-next-at-requires : tie.Need-next-at-requires
-next-at-requires c κs = search needs
+record-at-requires : tie.Need-record-at-requires
+record-at-requires c κs = search needs
 
 enum-known-next : tie.Need-enum-known-next
 enum-known-next c = search needs
@@ -35,7 +35,7 @@ module _ (c : tie.After-known-told) where
   end = c .before .next .given .0 .1 .1 .0
 
   found : nextAt s 0 ≡ Record kind start end
-  found = sym (c .before .before .before .next-at .ensures) ∙ c .before .next .given .1
+  found = sym (c .before .before .before .record-at .ensures) ∙ c .before .next .given .1
 
   known : Known s 0 kind start end
   known = next-known s 0 _ _ _ found
@@ -68,13 +68,13 @@ returns-3 c =
     (c .ranges-ok .ensures ∙ ap rangesOk (c .before .head-at .ensures))
 
 returns-4 : tie.Need-returns-4
-returns-4 c = sym (first-missing (now (c .before .before .before .before .args .file)) _ (sym (c .before .before .next-at .ensures) ∙ c .enum-told .given .1))
+returns-4 c = sym (first-missing (now (c .before .before .before .before .args .file)) _ (sym (c .before .before .record-at .ensures) ∙ c .enum-told .given .1))
 
 pub first-ok-spec : {M : Type 1} → statement M
 first-ok-spec =
     tie.close
     (tie.spec
-    next-at-requires
+    record-at-requires
     enum-known-next
     returns
     sub-if2

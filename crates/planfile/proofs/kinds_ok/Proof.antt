@@ -34,8 +34,8 @@ loop-holds : tie.Need-loop-holds Inv-loop μ-loop
 unfolding place
 loop-holds c = (omega arith, refl, all-none _)
 
-next-at-requires : tie.Need-next-at-requires Inv-loop μ-loop
-next-at-requires c κs = search needs
+record-at-requires : tie.Need-record-at-requires Inv-loop μ-loop
+record-at-requires c κs = search needs
 
 enum-known-next : tie.Need-enum-known-next Inv-loop μ-loop
 enum-known-next c = search needs
@@ -61,7 +61,7 @@ module _ (c : tie.After-known-told Inv-loop μ-loop) where
   kind = c .before .next .given .0 .0
 
   found : nextAt s (place s t) ≡ Record kind (c .before .next .given .0 .1 .0) (c .before .next .given .0 .1 .1 .0)
-  found = reached s t (turn .loop .inv .1) (c .before .before .before .next-at .ensures) (c .before .next .given .1)
+  found = reached s t (turn .loop .inv .1) (c .before .before .before .record-at .ensures) (c .before .next .given .1)
 
   tested : kindOk s h t ≡ eqb kind (getD (kindsOf h) t 0)
   tested = kind-found s h t _ _ _ found
@@ -82,7 +82,7 @@ returns-2 c =
     let turn = c .before .before .before .before in
     let h = turn .before .before .before .args .h in
     let s = now (turn .before .before .before .args .file) in
-    let missed = reached s (turn .loop .t) (turn .loop .inv .1) (c .before .before .next-at .ensures) (c .enum-told .given .1) in
+    let missed = reached s (turn .loop .t) (turn .loop .inv .1) (c .before .before .record-at .ensures) (c .enum-told .given .1) in
     sym (kinds-fail s h (turn .loop .t) (omega arith) (kind-missing s h (turn .loop .t) _ missed))
 
 add-t : tie.Need-add-t Inv-loop μ-loop
@@ -113,7 +113,7 @@ kinds-ok-spec =
     μ-loop
     count-requires
     loop-holds
-    next-at-requires
+    record-at-requires
     enum-known-next
     kind-of-requires
     returns

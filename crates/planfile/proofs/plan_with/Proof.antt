@@ -5,7 +5,7 @@ use Prim.Native.Nat.{ℕ, _-_, _≤_}
 use native.Mathlib.Omega.{arith}
 use borrow.Author.Needs.{needs}
 use denote.Ref.{now}
-use lib.ListN.{length, getD, take, drop}
+use lib.ListN.{length, getD}
 use Rattle.records.specs.Cursor.{nextAt, place, bodyAt}
 use Rattle.records.specs.declared.Next.the-variants.{Record}
 use Rattle.records.proofs.Cursor.{Known, next-known, reached, place-next, kind-next, body-part}
@@ -32,8 +32,8 @@ loop-holds : tie.Need-loop-holds Inv-loop μ-loop
 unfolding place
 loop-holds c = (omega arith, refl, c .no-plan .ensures ∙ after-none _ _)
 
-next-at-requires : tie.Need-next-at-requires Inv-loop μ-loop
-next-at-requires c κs = search needs
+record-at-requires : tie.Need-record-at-requires Inv-loop μ-loop
+record-at-requires c κs = search needs
 
 enum-known-next : tie.Need-enum-known-next Inv-loop μ-loop
 enum-known-next c = search needs
@@ -65,7 +65,7 @@ module _ (c : tie.After-known-told Inv-loop μ-loop) where
   end = c .before .next .given .0 .1 .1 .0
 
   found : nextAt s (place s t) ≡ Record kind start end
-  found = reached s t (turn .loop .inv .1) (c .before .before .before .next-at .ensures) (c .before .next .given .1)
+  found = reached s t (turn .loop .inv .1) (c .before .before .before .record-at .ensures) (c .before .next .given .1)
 
   known : Known s (place s t) kind start end
   known = next-known s (place s t) _ _ _ found
@@ -74,17 +74,12 @@ module _ (c : tie.After-known-told Inv-loop μ-loop) where
   kind-is : kind ≡ getD (kindsOf h) t 0
   kind-is = kind-next s t _ _ _ found ∙ kind-there s h (first .pre .kinds) t (omega arith)
 
-  part : take (end - start) (drop start s) ≡ bodyAt s t
-  part = body-part s t _ _ _ found
+body-at-requires : tie.Need-body-at-requires Inv-loop μ-loop
+body-at-requires c κs = record { ordered = omega (arith, known c); fits = known c .fits }
 
-sub-with-body : tie.Need-sub-with-body Inv-loop μ-loop
-sub-with-body c = omega (arith, known c)
-
-part-with-body-start : tie.Need-part-with-body-start Inv-loop μ-loop
-part-with-body-start c = omega (arith, known c)
-
-part-with-body-end : tie.Need-part-with-body-end Inv-loop μ-loop
-part-with-body-end c = known c .fits
+-- the body that is handed on is that of record t
+handed : (c : tie.After-body-at Inv-loop μ-loop) → now (c .body-at .result) ≡ bodyAt (s (c .before)) (t (c .before))
+handed c = c .body-at .ensures ∙ body-part (s (c .before)) (t (c .before)) _ _ _ (found (c .before))
 
 with-body-requires : tie.Need-with-body-requires Inv-loop μ-loop
 with-body-requires c κs =
@@ -93,7 +88,7 @@ with-body-requires c κs =
       head = first d .pre .head;
       turn = omega arith;
       kind-is = kind-is d;
-      size = ap length (part d) ∙ size-there (s d) (h d) (first d .pre .sizes) (t d) (omega arith) ∙ ap (sizeOf (h d)) (sym (kind-is d));
+      size = ap length (handed c) ∙ size-there (s d) (h d) (first d .pre .sizes) (t d) (omega arith) ∙ ap (sizeOf (h d)) (sym (kind-is d));
     }
 
 enum-told : tie.Need-enum-told Inv-loop μ-loop
@@ -104,7 +99,7 @@ returns c =
     let turn = c .before .before .before .before in
     let first = turn .before .before .before .before in
     let s = now (first .args .file) in
-    let missed = reached s (turn .loop .t) (turn .loop .inv .1) (c .before .before .next-at .ensures) (c .enum-told .given .1) in
+    let missed = reached s (turn .loop .t) (turn .loop .inv .1) (c .before .before .record-at .ensures) (c .enum-told .given .1) in
     absurd (none-missing s (first .args .h) (first .pre .kinds) (turn .loop .t) (omega arith) _ missed)
 
 add-t : tie.Need-add-t Inv-loop μ-loop
@@ -118,7 +113,7 @@ loop-again c =
     let d = c .before .before in (
       omega arith,
       place-next (s d) (t d) _ _ _ (found d),
-      after-next (s d) (h d) (t d) (c .with-body .ensures) (part d) (turn d .loop .inv .2) (kind-is d) refl,
+      after-next (s d) (h d) (t d) (c .with-body .ensures) (handed (c .before)) (turn d .loop .inv .2) (kind-is d) refl,
     )
 
 returns-2 : tie.Need-returns-2 Inv-loop μ-loop
@@ -138,11 +133,9 @@ plan-with-spec =
     count-requires
     no-plan-requires
     loop-holds
-    next-at-requires
+    record-at-requires
     enum-known-next
-    sub-with-body
-    part-with-body-start
-    part-with-body-end
+    body-at-requires
     with-body-requires
     enum-told
     returns

@@ -34,8 +34,8 @@ loop-holds : tie.Need-loop-holds Inv-loop μ-loop
 unfolding place
 loop-holds c = (omega arith, refl, all-none _)
 
-next-at-requires : tie.Need-next-at-requires Inv-loop μ-loop
-next-at-requires c κs = search needs
+record-at-requires : tie.Need-record-at-requires Inv-loop μ-loop
+record-at-requires c κs = search needs
 
 enum-known-next : tie.Need-enum-known-next Inv-loop μ-loop
 enum-known-next c = search needs
@@ -67,7 +67,7 @@ module _ (c : tie.After-known-told Inv-loop μ-loop) where
   end = c .before .next .given .0 .1 .1 .0
 
   found : nextAt s (place s t) ≡ Record kind start end
-  found = reached s t (turn .loop .inv .1) (c .before .before .before .next-at .ensures) (c .before .next .given .1)
+  found = reached s t (turn .loop .inv .1) (c .before .before .before .record-at .ensures) (c .before .next .given .1)
 
   tested : sizeOk s h t ≡ eqb (end - start) (sizeOf h kind)
   tested = size-found s h (first .pre .1) t (omega arith) _ _ _ found
@@ -92,7 +92,7 @@ returns-2 c =
     let turn = c .before .before .before .before in
     let first = turn .before .before .before in
     let s = now (first .args .file) in
-    let missed = reached s (turn .loop .t) (turn .loop .inv .1) (c .before .before .next-at .ensures) (c .enum-told .given .1) in
+    let missed = reached s (turn .loop .t) (turn .loop .inv .1) (c .before .before .record-at .ensures) (c .enum-told .given .1) in
     absurd (none-missing s (first .args .h) (first .pre .1) (turn .loop .t) (omega arith) _ missed)
 
 add-t : tie.Need-add-t Inv-loop μ-loop
@@ -121,7 +121,7 @@ sizes-ok-spec =
     μ-loop
     count-requires
     loop-holds
-    next-at-requires
+    record-at-requires
     enum-known-next
     sub-if1
     size-of-requires

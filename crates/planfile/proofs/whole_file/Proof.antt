@@ -7,10 +7,10 @@ use native.Mathlib.Omega.{arith}
 use borrow.Author.Needs.{needs}
 use denote.Ref.{now}
 use lib.ListN.{length}
 use Rattle.records.specs.Cursor.{wholeFile}
 use Rattle.records.proofs.Cursor.{Known, next-known, restWhole, rest-all, rest-next, rest-stop}
-use Rattle.records.proofs.whole_file.Statement.{statement}
-use Rattle.records.proofs.whole_file.Tie as tie
+use Rattle.planfile.proofs.whole_file.Statement.{statement}
+use Rattle.planfile.proofs.whole_file.Tie as tie
 
 abbrev Inv-loop : tie.InvT-loop
 Inv-loop file at₀ at = wholeFile file ≡ restWhole file at
@@ -21,8 +21,8 @@ abbrev μ-loop : tie.MeasureT-loop
 loop-holds : tie.Need-loop-holds Inv-loop μ-loop
 loop-holds c = rest-all (now (c .before .args .file))
 
-next-at-requires : tie.Need-next-at-requires Inv-loop μ-loop
-next-at-requires c κs = search needs
+record-at-requires : tie.Need-record-at-requires Inv-loop μ-loop
+record-at-requires c κs = search needs
 
 enum-known-next : tie.Need-enum-known-next Inv-loop μ-loop
 enum-known-next c = search needs
@@ -36,7 +36,7 @@ module _ (c : tie.After-known-told Inv-loop μ-loop) where
   at = c .before .before .before .before .loop .at
 
   found : Known s at (c .before .next .given .0 .0) (c .before .next .given .0 .1 .0) (c .before .next .given .0 .1 .1 .0)
-  found = next-known s at _ _ _ (sym (c .before .before .before .next-at .ensures) ∙ c .before .next .given .1)
+  found = next-known s at _ _ _ (sym (c .before .before .before .record-at .ensures) ∙ c .before .next .given .1)
 
 loop-less : tie.Need-loop-less Inv-loop μ-loop
 loop-less c = omega (arith, found c .end, found c .fits)
@@ -51,7 +51,7 @@ returns : tie.Need-returns Inv-loop μ-loop
 returns c =
     let turn = c .before .before .before .before in
     let s = now (turn .before .before .args .file) in
-    sym (turn .loop .inv ∙ rest-stop s (turn .loop .at) _ (sym (c .before .before .before .next-at .ensures) ∙ c .before .next2 .given .1))
+    sym (turn .loop .inv ∙ rest-stop s (turn .loop .at) _ (sym (c .before .before .before .record-at .ensures) ∙ c .before .next2 .given .1))
 
 pub whole-file-spec : {M : Type 1} → statement M
 whole-file-spec =
@@ -60,7 +60,7 @@ whole-file-spec =
     Inv-loop
     μ-loop
     loop-holds
-    next-at-requires
+    record-at-requires
     enum-known-next
     loop-less
     loop-again
