@@ -62,14 +62,13 @@ use Rattle.planner.specs.Verdict.{
   planWord,
   verdictAnswer,
 }
-use Rattle.planner.specs.Rows.{verdictOf}
 use Rattle.planner.specs.Demand3.{FundNear, FormNear, ShortPattern, VerdictTrue}
 use Rattle.planner.specs.declared.FormAnswer.{FormAnswer}
 use Rattle.planner.specs.declared.VerdictAnswer.{VerdictAnswer}
 use Rattle.planner.proofs.Held.{terms, rollover-held}
 use Rattle.planner.proofs.Answers.{refused-none, Called, called, reckoned-is}
 use Rattle.planner.proofs.Bits.{Lowest, bits-lowest}
-use Rattle.planner.proofs.VerdictLaws.{word-solvent, word-short, plan-solvent, plan-short}
+use Rattle.planner.proofs.VerdictLaws.{verdictBy, word-solvent, word-short, plan-solvent, plan-short}
 
 -- ---- every rate of a pattern is at most h; it has none outside i_2 to i_N
 rate-le : (plan : Plan) (t : ℕ) → t < plan .patterns → (l : ℕ) → natAbs (numbers plan .i (1 + t) l) ≤ h (numbers plan .i (1 + t)) (plan .years)
@@ -167,7 +166,7 @@ module _ (plan : Plan) where
     unfolding verdictRefusal
     ok = accepted plan (first-none (refusalOf (numbers plan)) _ verdict-called)
 
-    verdict-is : verdictAnswer (numbers plan) ≡ verdictOf m word
+    verdict-is : verdictAnswer (numbers plan) ≡ verdictBy m word
     unfolding verdictAnswer shortBits planWord
     verdict-is = answer-accepted noVerdict (verdictRefusal (numbers plan)) _ verdict-called
 

@@ -53,27 +53,33 @@ module _ (r : ℕ → ℕ) (i : ℕ → ℤ) (N n : ℕ) (f o : ℕ → ℤ) (a 
 abbrev pub rowReckoned : (P : Numbers) (t : ℕ) → OneRow
 rowReckoned P t = rowAnswer (P .r) (P .i t) (P .years) (P .instruments) (flowOf P) (λ k. negℤ (P .o k)) (λ j k. P .a k (1 + j))
 
--- ---- the loop over the patterns: rows has those of the first t, and check 11 takes them
-pub record Rowed (P : Numbers) (rows : List PatternRow) (t : ℕ) : Type 0 where
+-- ---- the loop over the patterns: words and rows have those of the first t, and check 11 takes them
+pub record Rowed (P : Numbers) (words : List ℕ) (rows : List PatternRow) (t : ℕ) : Type 0 where
+  pub worded : Filling 64 (P .patterns) (λ t. patternWord P (1 + t)) 0 words t
   pub filled : Filling 64 (P .patterns) (λ t. rowOf P (1 + t)) noPattern rows t
   pub fit : all t (λ t. rowFits P (1 + t)) ≡ true
 
 module _ (P : Numbers) where
-  pub rows-start : Rowed P (replicate 64 noPattern) 0
-  rows-start = record { filled = fill-start; fit = all-none _ }
+  pub rows-start : Rowed P (replicate 64 0) (replicate 64 noPattern) 0
+  rows-start = record { worded = fill-start; filled = fill-start; fit = all-none _ }
 
   module _ {t : ℕ} (l : t < P .patterns) {c : OneRow} (e : c ≡ rowReckoned P (1 + t)) where
-    pub rows-turn : {rows : List PatternRow} → P .patterns ≤ 64 → Rowed P rows t → c .refusal ≡ 0 → Rowed P (set rows t (c .row)) (t + 1)
+    row-of : c .refusal ≡ 0 → c .row ≡ rowOf P (1 + t)
     unfolding rowAnswer rowFits coefficientsFit constantFits rowOf patternWord fundOf boundOf K Q
+    row-of h = ap (λ (c : OneRow). c .row) (picked-is (λ (c : OneRow). c .refusal) _ _ refl (λ z. omega arith) (rowFits P (1 + t)) c e h)
+
+    pub rows-turn : {words : List ℕ} {rows : List PatternRow} → P .patterns ≤ 64 → Rowed P words rows t → c .refusal ≡ 0 → Rowed P (set words t (c .row .word)) (set rows t (c .row)) (t + 1)
+    unfolding rowAnswer rowFits coefficientsFit constantFits rowOf
     rows-turn few a h = record {
-      filled = fill-turn few l (a .filled) (ap (λ (c : OneRow). c .row) (picked-is (λ (c : OneRow). c .refusal) _ _ refl (λ z. omega arith) (rowFits P (1 + t)) c e h));
+      worded = fill-turn few l (a .worded) (ap (λ (row : PatternRow). row .word) (row-of h));
+      filled = fill-turn few l (a .filled) (row-of h);
       fit = all-more t (λ t. rowFits P (1 + t)) (a .fit) (picked-yes (λ (c : OneRow). c .refusal) _ _ refl (λ z. omega arith) (rowFits P (1 + t)) c e h);
     }
 
-    pub rows-refuse : (c .refusal ≡ 0 → ⊥) → record { refusal = 11; rows = replicate 64 noPattern } ≡ rowsReckoned P
+    pub rows-refuse : (c .refusal ≡ 0 → ⊥) → record { refusal = 11; words = replicate 64 0; rows = replicate 64 noPattern } ≡ rowsReckoned P
     unfolding rowsReckoned rowAnswer rowFits coefficientsFit constantFits
     rows-refuse h = rw (all-fails (P .patterns) (λ t. rowFits P (1 + t)) t l (picked-no (λ (c : OneRow). c .refusal) _ _ refl (λ z. omega arith) (rowFits P (1 + t)) c e h))
 
-  pub rows-end : {rows : List PatternRow} {t : ℕ} → P .patterns ≤ t → Rowed P rows t → record { refusal = 0; rows = rows } ≡ rowsReckoned P
+  pub rows-end : {words : List ℕ} {rows : List PatternRow} {t : ℕ} → P .patterns ≤ t → Rowed P words rows t → record { refusal = 0; words = words; rows = rows } ≡ rowsReckoned P
   unfolding rowsReckoned
-  rows-end l a = rw (fill-end l (a .filled), all-end (P .patterns) (λ t. rowFits P (1 + t)) (a .filled .upto) l (a .fit))
+  rows-end l a = rw (fill-end l (a .worded), fill-end l (a .filled), all-end (P .patterns) (λ t. rowFits P (1 + t)) (a .filled .upto) l (a .fit))

@@ -12,7 +12,7 @@ use lib.Signed.{leZ, _≤ℤ_}
 use Rattle.whole.specs.Test.{pick, all}
 use Rattle.whole.specs.Table.{table}
 use Rattle.whole.proofs.Test.{picked-yes, picked-no, picked-is, all-at, all-cong, le-true}
-use Rattle.whole.proofs.Table.{table-at, table-cong}
+use Rattle.whole.proofs.Table.{table-at}
 use Rattle.plan.specs.Numbers.{Numbers}
 use Rattle.plan.specs.Refusal.{refusalOf}
 use Rattle.plan.proofs.Checks.{first-some}
@@ -35,7 +35,7 @@ use Rattle.planner.specs.Verdict.{
   rowsOf,
   judgementOf,
 }
-use Rattle.planner.specs.Rows.{noJudgement, rowsReckoned, rowIn, verdictOf}
+use Rattle.planner.specs.Rows.{noJudgement, rowsReckoned, verdictOf}
 use Rattle.planner.specs.declared.PatternRow.{PatternRow}
 use Rattle.planner.specs.declared.PatternRows.{PatternRows}
 use Rattle.planner.specs.declared.VerdictAnswer.{VerdictAnswer}
@@ -43,24 +43,21 @@ use Rattle.planner.specs.declared.Judgement.{Judgement}
 use Rattle.planner.proofs.Answers.{out-refused, out-accepted}
 use Rattle.planner.proofs.Bits.{bits-cong}
 
--- ---- the verdict that m words make
-module _ {m : ℕ} {v w : ℕ → ℕ} (same : (t : ℕ) → t < m → v t ≡ w t) where
-  shorts-same : bitsOf m (λ t. eqb (v t) short) ≡ bitsOf m (λ t. eqb (w t) short)
-  shorts-same = bits-cong m _ _ (λ t l. ap (λ (x : ℕ). eqb x short) (same t l))
+-- ---- the verdict that m words make, and that of an array which holds them
+abbrev pub verdictBy : (m : ℕ) (word : ℕ → ℕ) → VerdictAnswer
+verdictBy m word = record {
+  refusal = 0;
+  words = table 64 m word 0;
+  short = bitsOf m (λ t. eqb (word t) short);
+  word = planWordOf m word (bitsOf m (λ t. eqb (word t) short));
+}
 
-  solvents-same : all m (λ t. eqb (v t) solvent) ≡ all m (λ t. eqb (w t) solvent)
-  solvents-same = all-cong m _ _ (λ t l. ap (λ (x : ℕ). eqb x solvent) (same t l))
-
-  verdict-same : verdictOf m v ≡ verdictOf m w
-  verdict-same = rw (table-cong 64 m v w 0 same, shorts-same, solvents-same)
-
--- made of the array of the words
-pub verdict-made : (m : ℕ) (word : ℕ → ℕ) → m ≤ 64 → {words : List ℕ} {bits x : ℕ} → words ≡ table 64 m word 0 →
-    bits ≡ bitsOf m (λ t. eqb (getD words t 0) short) → x ≡ planWordOf m (λ t. getD words t 0) bits →
-    record { refusal = 0; words = words; short = bits; word = x } ≡ verdictOf m word
-verdict-made m word few {words} e f g =
+verdict-made : (m : ℕ) (word : ℕ → ℕ) → m ≤ 64 → {words : List ℕ} → words ≡ table 64 m word 0 → verdictOf m words ≡ verdictBy m word
+verdict-made m word few {words} e =
     let same : (t : ℕ) → t < m → getD words t 0 ≡ word t = λ t l. ap (λ (words : List ℕ). getD words t 0) e ∙ table-at 64 m word 0 0 t l few in
-    rw (g, f, shorts-same same, solvents-same same, e)
+    let shorts : bitsOf m (λ t. eqb (getD words t 0) short) ≡ bitsOf m (λ t. eqb (word t) short) = bits-cong m _ _ (λ t l. ap (λ (x : ℕ). eqb x short) (same t l)) in
+    let solvents : all m (λ t. eqb (getD words t 0) solvent) ≡ all m (λ t. eqb (word t) solvent) = all-cong m _ _ (λ t l. ap (λ (x : ℕ). eqb x solvent) (same t l)) in
+    rw (shorts, solvents, e)
 
 abbrev judgement : VerdictAnswer → List PatternRow → Judgement
 judgement v rows = record { verdict = v; rows = rows }
@@ -80,25 +77,24 @@ module _ (P : Numbers) where
     unfolding verdictRefusal rowsReckoned
     none-refuses h = rw (accepted, picked-yes (λ (c : PatternRows). c .refusal) _ _ refl (λ z. omega arith) (all (P .patterns) (λ t. rowFits P (1 + t))) c e h)
 
-  pub rows-are : {c : PatternRows} → c ≡ rowsReckoned P → c .refusal ≡ 0 → c .rows ≡ table 64 (P .patterns) (λ t. rowOf P (1 + t)) noPattern
-  unfolding rowsReckoned
-  rows-are {c} e h = ap (λ (c : PatternRows). c .rows) (picked-is (λ (c : PatternRows). c .refusal) _ _ refl (λ z. omega arith) (all (P .patterns) (λ t. rowFits P (1 + t))) c e h)
+  reckoned : PatternRows
+  reckoned = record { refusal = 0; words = table 64 (P .patterns) (λ t. patternWord P (1 + t)) 0; rows = table 64 (P .patterns) (λ t. rowOf P (1 + t)) noPattern }
+
+  rows-are : {c : PatternRows} → c ≡ rowsReckoned P → c .refusal ≡ 0 → c ≡ reckoned
+  unfolding rowsReckoned reckoned
+  rows-are {c} e h = picked-is (λ (c : PatternRows). c .refusal) _ _ refl (λ z. omega arith) (all (P .patterns) (λ t. rowFits P (1 + t))) c e h
 
   -- ---- the ways out
   pub judge-refused : {number : ℕ} → number ≡ verdictRefusal P → (number ≡ 0 → ⊥) → noJudgement number ≡ judgementOf P
   unfolding judgementOf verdictAnswer rowsOf
   judge-refused e h = ap₂ judgement (out-refused noVerdict _ e h) (out-refused (λ n. replicate 64 noPattern) _ e h)
 
-  module _ (few : P .patterns ≤ 64) {v : VerdictAnswer} {rows : List PatternRow}
-      (e : rows ≡ table 64 (P .patterns) (λ t. rowOf P (1 + t)) noPattern) (f : v ≡ verdictOf (P .patterns) (λ t. rowIn rows t .word)) where
-    -- the words in the rows are the patterns' words
-    word-in : (t : ℕ) → t < P .patterns → rowIn rows t .word ≡ patternWord P (1 + t)
-    unfolding rowOf
-    word-in t l = rw e (ap (λ (row : PatternRow). row .word) (table-at 64 (P .patterns) (λ t. rowOf P (1 + t)) noPattern _ t l few))
-
-    pub judged : verdictRefusal P ≡ 0 → record { verdict = v; rows = rows } ≡ judgementOf P
-    unfolding judgementOf verdictAnswer rowsOf shortBits planWord
-    judged none = ap₂ judgement (out-accepted noVerdict none (f ∙ verdict-same word-in)) (out-accepted (λ n. replicate 64 noPattern) none e)
+  pub judged : P .patterns ≤ 64 → {c : PatternRows} {v : VerdictAnswer} → c ≡ rowsReckoned P → c .refusal ≡ 0 → v ≡ verdictOf (P .patterns) (c .words) → verdictRefusal P ≡ 0 →
+      record { verdict = v; rows = c .rows } ≡ judgementOf P
+  unfolding judgementOf verdictAnswer rowsOf shortBits planWord reckoned
+  judged few {c} e h f none =
+      let words = ap (λ (c : PatternRows). c .words) (rows-are e h) in
+      ap₂ judgement (out-accepted noVerdict none (f ∙ verdict-made (P .patterns) (λ t. patternWord P (1 + t)) few words)) (out-accepted (λ n. replicate 64 noPattern) none (ap (λ (c : PatternRows). c .rows) (rows-are e h)))
 
 -- ---- what a pattern's word says of its fund z and bound b
 module _ (z b : ℤ) where

@@ -15,7 +15,7 @@ use Rattle.planner.specs.declared.PatternRows.{PatternRows}
 use Rattle.planner.specs.declared.OneRow.{OneRow}
 use Rattle.planner.specs.declared.VerdictAnswer.{VerdictAnswer}
 use Rattle.planner.specs.declared.Judgement.{Judgement}
-use Rattle.planner.specs.Verdict.{short, wordOf, bitsOf, planWordOf, noVerdict, noPattern, rowFits, rowOf}
+use Rattle.planner.specs.Verdict.{short, wordOf, bitsOf, planWordOf, noVerdict, noPattern, rowFits, patternWord, rowOf}
 
 -- what a refusal holds
 abbrev pub refusedRow : OneRow
@@ -40,21 +40,18 @@ rowAnswer r i N n f o a = pick (both (fundFits r i f N) (both (all n (λ j. fund
     })
     refusedRow
 
--- the row of every pattern, unless check 11 refuses one
+-- the word and the row of every pattern, unless check 11 refuses one
 unfoldable pub rowsReckoned : Numbers → PatternRows
 rowsReckoned P = pick (all (P .patterns) (λ t. rowFits P (1 + t)))
-    (record { refusal = 0; rows = table 64 (P .patterns) (λ t. rowOf P (1 + t)) noPattern })
-    (record { refusal = 11; rows = replicate 64 noPattern })
+    (record { refusal = 0; words = table 64 (P .patterns) (λ t. patternWord P (1 + t)) 0; rows = table 64 (P .patterns) (λ t. rowOf P (1 + t)) noPattern })
+    (record { refusal = 11; words = replicate 64 0; rows = replicate 64 noPattern })
 
 -- the row at a place, counted from 0
 abbrev pub rowIn : List PatternRow → (t : ℕ) → PatternRow
 rowIn rows t = getD rows t (record { word = 0; fund = pos 0; bound = pos 0; coefficients = []; constant = pos 0 })
 
--- the verdict that m words make
-abbrev pub verdictOf : (m : ℕ) (word : ℕ → ℕ) → VerdictAnswer
-verdictOf m word = record {
-  refusal = 0;
-  words = table 64 m word 0;
-  short = bitsOf m (λ t. eqb (word t) short);
-  word = planWordOf m word (bitsOf m (λ t. eqb (word t) short));
-}
+-- the verdict that m words in an array make
+abbrev pub verdictOf : (m : ℕ) (words : List ℕ) → VerdictAnswer
+verdictOf m words =
+    let bits = bitsOf m (λ t. eqb (getD words t 0) short) in
+    record { refusal = 0; words = words; short = bits; word = planWordOf m (λ t. getD words t 0) bits }

@@ -18,7 +18,7 @@ ghost use Rattle.plan.specs.Refusal.{Accepted};
 ghost use Rattle.planner.specs.Calls.{noForm, callRefusal, fundAnswer, boundAnswer, gammasAnswer, formReckoned, formAnswer};
 ghost use Rattle.planner.specs.Verdict.{short, wordOf, bitsOf, noPattern, planWordOf, verdictAnswer, judgementOf};
 ghost use Rattle.planner.specs.Arrays.{rolloverArray, ratesArray, flowArray, outflowArray, paymentsRows, commonOf, columnOf, flowsIn, Payments, Flows, fundsReckoned, Weighable};
-ghost use Rattle.planner.specs.Rows.{refusedRow, rowAnswer, noJudgement, rowsReckoned, rowIn, verdictOf};
+ghost use Rattle.planner.specs.Rows.{refusedRow, rowAnswer, noJudgement, rowsReckoned, verdictOf};
 ghost use Rattle.planner.specs.Demand3.{FundNear, FormNear, VerdictTrue};
 
 pub struct BoundAnswer {
@@ -349,8 +349,8 @@ pub fn form(plan: Plan, t: usize) -> FormAnswer
     }
     let payments = payments_of(plan);
     let common = common_of(plan, &payments);
-    let i = rates_of(plan, t);
-    form_at(plan, common, &payments, &i)
+    let pattern = rates_of(plan, t);
+    form_at(plan, common, &payments, &pattern)
 }
 
 // The table of gammas of pattern t.
@@ -390,6 +390,7 @@ pub struct OneRow {
 
 pub struct PatternRows {
     pub refusal: u8,
+    pub words: [u8; 64],
     pub rows: [PatternRow; 64],
 }
 
@@ -510,6 +511,7 @@ fn rows_of(plan: Plan, common: Common, payments: &[[i64; 30]; 16]) -> PatternRow
     let r = common.rollover;
     let w = common.weights;
     let none = no_pattern();
+    let mut words = [0u8; 64];
     let mut rows = [none; 64];
     for t in 0..m {
         let pattern = plan.pattern[t];
@@ -520,29 +522,19 @@ fn rows_of(plan: Plan, common: Common, payments: &[[i64; 30]; 16]) -> PatternRow
         if refusal != 0 {
             return PatternRows {
                 refusal: 11,
+                words: [0u8; 64],
                 rows: [none; 64],
             };
         }
         let row = c.row;
+        words[t] = row.word;
         rows[t] = row;
     }
     PatternRows {
         refusal: 0,
+        words: words,
         rows: rows,
     }
-}
-
-// The words of the first m rows.
-fn words_of(rows: [PatternRow; 64], m: usize) -> [u8; 64]
-    requires { ⌜ m ≤ 64 ⌝ }
-    ensures { λ s. ⌜ s ≡ table 64 m (λ t. rowIn rows t .word) 0 ⌝ }
-{
-    let mut words = [0u8; 64];
-    for t in 0..m {
-        let row = rows[t];
-        words[t] = row.word;
-    }
-    words
 }
 
 fn short_bit(word: u8) -> u64
@@ -581,12 +573,11 @@ fn plan_word(words: [u8; 64], m: usize, bits: u64) -> u8
     1
 }
 
-// The verdict that m rows make.
-fn verdict_of(rows: [PatternRow; 64], m: usize) -> VerdictAnswer
+// The verdict that m words make.
+fn verdict_of(words: [u8; 64], m: usize) -> VerdictAnswer
     requires { ⌜ m ≤ 64 ⌝ }
-    ensures { λ s. ⌜ s ≡ verdictOf m (λ t. rowIn rows t .word) ⌝ }
+    ensures { λ s. ⌜ s ≡ verdictOf m words ⌝ }
 {
-    let words = words_of(rows, m);
     let short = short_bits(words, m);
     let word = plan_word(words, m, short);
     VerdictAnswer {
@@ -629,8 +620,9 @@ pub fn judge(plan: Plan) -> Judgement
         return no_judgement(11);
     }
     let m = plan.patterns;
+    let words = c.words;
+    let verdict = verdict_of(words, m);
     let rows = c.rows;
-    let verdict = verdict_of(rows, m);
     Judgement {
         verdict: verdict,
         rows: rows,

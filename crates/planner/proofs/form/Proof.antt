@@ -37,7 +37,7 @@ rates-of-requires : tie.Need-rates-of-requires
 rates-of-requires c κs = let o = ok (c .before .before .before) in (o .plan-ok, (o .some, o .few))
 
 -- what was prepared of the plan
-module _ (c : tie.After-i) where
+module _ (c : tie.After-pattern) where
   abbrev rated : tie.After-rates-of
   rated = c .before .before
 

@@ -5,7 +5,7 @@ use borrow.Author.Needs.{needs}
 use Rattle.plan.specs.Numbers.{numbers}
 use Rattle.plan.specs.Refusal.{refusalOf, Accepted}
 use Rattle.plan.proofs.Checks.{accepted}
-use Rattle.planner.proofs.VerdictLaws.{plan-refuses, pattern-refuses, none-refuses, rows-are, judge-refused, judged}
+use Rattle.planner.proofs.VerdictLaws.{plan-refuses, pattern-refuses, none-refuses, judge-refused, judged}
 use Rattle.planner.proofs.judge.Statement.{statement}
 use Rattle.planner.proofs.judge.Tie as tie
 
@@ -52,10 +52,11 @@ verdict-of-requires c κs = ok (accepted-at (c .before .before)) .head .patterns
 
 returns-3 : tie.Need-returns-3
 returns-3 c =
-    let r = c .before .before .before in
+    let v = c .before in
+    let r = v .before .before .before in
     let e = accepted-at r in
-    let left = c .before .before .if2 .left in
-    judged _ (ok e .head .patterns-few) (rows-are _ (r .rows-of .ensures) left) (c .verdict-of .ensures) (none-refuses _ (none e) (r .rows-of .ensures) left)
+    let left = v .before .before .if2 .left in
+    judged _ (ok e .head .patterns-few) (r .rows-of .ensures) left (v .verdict-of .ensures) (none-refuses _ (none e) (r .rows-of .ensures) left)
 
 pub judge-spec : {M : Type 1} → statement M
 judge-spec =

@@ -13,10 +13,10 @@ use Rattle.planner.proofs.rows_of.Statement.{statement}
 use Rattle.planner.proofs.rows_of.Tie as tie
 
 abbrev Inv-loop : tie.InvT-loop
-Inv-loop payments plan m n years q flow outflow r w none rows₀ t₀ rows t = Rowed (numbers plan) rows t
+Inv-loop payments plan m n years q flow outflow r w none words₀ rows₀ t₀ words rows t = Rowed (numbers plan) words rows t
 
 abbrev μ-loop : tie.MeasureT-loop
-μ-loop payments plan m n years q flow outflow r w none rows₀ t₀ rows t = plan .patterns - t
+μ-loop payments plan m n years q flow outflow r w none words₀ rows₀ t₀ words rows t = plan .patterns - t
 
 no-pattern-requires : tie.Need-no-pattern-requires Inv-loop μ-loop
 no-pattern-requires c κs = search needs
@@ -80,6 +80,9 @@ returns c =
     let t = now-at (c .before) in
     rw (t .before .before .no-pattern .ensures) (rows-refuse _ (t .loop-test .taken) (row-of (c .before)) (c .if1 .taken))
 
+array-write-words : tie.Need-array-write-words Inv-loop μ-loop
+array-write-words c = t-few (now-at (c .before .before))
+
 mul-rows : tie.Need-mul-rows Inv-loop μ-loop
 mul-rows c = omega (arith, t-few (now-at (c .before .before)))
 
@@ -114,6 +117,7 @@ rows-of-spec =
     widened-requires
     row-at-requires
     returns
+    array-write-words
     mul-rows
     array-set-from-rows
     add-t
