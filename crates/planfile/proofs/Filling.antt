@@ -1,27 +1,92 @@
 -- The plan that is read record by record is the plan that the bodies hold.
 use mathlib.Core.Path.{_≡_, refl, sym, ap, _∙_}
-use mathlib.Core.List.{List}
+use mathlib.Core.List.{List, [], _∷_}
 use Prim.Native.Nat.{ℕ, zero, suc, _+_, _-_, _≤_, _<_}
 use native.Mathlib.Numerals.{add-one, one-add}
 use native.Mathlib.Omega.{arith}
+use lib.IntN.{ℤ}
 use lib.ListN.{length, getD, set}
 use Rattle.whole.specs.Entry.{nth}
 use Rattle.whole.specs.Table.{table}
 use Rattle.whole.proofs.Table.{table-more}
+use Rattle.whole.proofs.Entry.{nth-outside}
 use Rattle.records.specs.Cursor.{bodyAt}
 use Rattle.plan.specs.declared.Instrument.{Instrument}
 use Rattle.plan.specs.declared.Pattern.{Pattern}
 use Rattle.plan.specs.declared.Plan.{Plan}
 use Rattle.planfile.specs.declared.Head.{Head}
-use Rattle.planfile.specs.Format.{kindsOf}
+use Rattle.planfile.specs.Format.{kindsOf, headOf}
 use Rattle.planfile.specs.Read.{amountsIn, sharesIn, instrumentIn, patternIn, noInstrument, noPattern, noPlan, planWith}
-use Rattle.planfile.specs.Reading.{InRange, planHeld, withBody}
+use Rattle.planfile.specs.Reading.{InRange}
 use Rattle.planfile.proofs.Places.{kinds}
+
+-- a plan of a head and five arrays
+abbrev planHeld : Head → List Instrument → (outflows : List ℤ) → (rollover : List ℕ) → List Pattern → (allocation : List ℕ) → Plan
+planHeld h instrument outflows rollover pattern allocation = record {
+  years = h .years;
+  instruments = h .instruments;
+  terms = h .terms;
+  patterns = h .patterns;
+  instrument = instrument;
+  outflows = outflows;
+  rollover = rollover;
+  pattern = pattern;
+  allocation = allocation;
+}
+
+-- a plan with the body of record t put into it: the record's kind, from 1 on, decides the reading of its body
+module _ (h : Head) (t : ℕ) (body : List ℕ) (plan : Plan) where
+  unfoldable pub withBody : (kind : ℕ) → Plan
+  withBody =
+      nth plan
+      (planHeld h (plan .instrument) (plan .outflows) (plan .rollover) (plan .pattern) (plan .allocation)
+      ∷ planHeld (headOf plan) (set (plan .instrument) (t - 1) (instrumentIn (h .years) body)) (plan .outflows) (plan .rollover) (plan .pattern) (plan .allocation)
+      ∷ planHeld (headOf plan) (plan .instrument) (amountsIn (h .years) body) (plan .rollover) (plan .pattern) (plan .allocation)
+      ∷ planHeld (headOf plan) (plan .instrument) (plan .outflows) (sharesIn 30 (h .terms) body) (plan .pattern) (plan .allocation)
+      ∷ planHeld (headOf plan) (plan .instrument) (plan .outflows) (plan .rollover) (set (plan .pattern) (t - (h .instruments + 3)) (patternIn (h .years - 1) body)) (plan .allocation)
+      ∷ planHeld (headOf plan) (plan .instrument) (plan .outflows) (plan .rollover) (plan .pattern) (sharesIn 16 (h .instruments) body)
+      ∷ [])
 
 -- the next place of an array filled
 put : {A : Type 0} (m n : ℕ) (f : ℕ → A) (d : A) (at : ℕ) (x : A) → at ≡ n → x ≡ f n → n < m → table m (suc n) f d ≡ set (table m n f d) at x
 put m n f d at x e i l = rw (e, i, ← add-one n) (sym (table-more m n f d l))
 
+-- ---- a body put into the plan, by the record's kind
+module _ (h : Head) (t : ℕ) (body : List ℕ) (plan : Plan) {kind : ℕ} where
+  pub put-head : kind ≡ 1 → planHeld h (plan .instrument) (plan .outflows) (plan .rollover) (plan .pattern) (plan .allocation) ≡ withBody h t body plan kind
+  unfolding withBody nth
+  put-head k = rw k
+
+  pub put-payments : {xs : List ℤ} → xs ≡ amountsIn (h .years) body → kind ≡ 2 →
+      planHeld (headOf plan) (set (plan .instrument) (t - 1) (record { payments = xs })) (plan .outflows) (plan .rollover) (plan .pattern) (plan .allocation) ≡ withBody h t body plan kind
+  unfolding withBody nth
+  put-payments e k = rw (k, e)
+
+  pub put-outflows : {xs : List ℤ} → xs ≡ amountsIn (h .years) body → kind ≡ 3 →
+      planHeld (headOf plan) (plan .instrument) xs (plan .rollover) (plan .pattern) (plan .allocation) ≡ withBody h t body plan kind
+  unfolding withBody nth
+  put-outflows e k = rw (k, e)
+
+  pub put-rollover : {xs : List ℕ} → xs ≡ sharesIn 30 (h .terms) body → kind ≡ 4 →
+      planHeld (headOf plan) (plan .instrument) (plan .outflows) xs (plan .pattern) (plan .allocation) ≡ withBody h t body plan kind
+  unfolding withBody nth
+  put-rollover e k = rw (k, e)
+
+  pub put-rates : {xs : List ℕ} → xs ≡ sharesIn 30 (h .years - 1) body → kind ≡ 5 →
+      planHeld (headOf plan) (plan .instrument) (plan .outflows) (plan .rollover) (set (plan .pattern) (t - (h .instruments + 3)) (record { rates = xs })) (plan .allocation) ≡ withBody h t body plan kind
+  unfolding withBody nth
+  put-rates e k = rw (k, e)
+
+  pub put-allocation : {xs : List ℕ} → xs ≡ sharesIn 16 (h .instruments) body → kind ≡ 6 →
+      planHeld (headOf plan) (plan .instrument) (plan .outflows) (plan .rollover) (plan .pattern) xs ≡ withBody h t body plan kind
+  unfolding withBody nth
+  put-allocation e k = rw (k, e)
+
+  pub put-none : (0 < kind → 6 < kind) → plan ≡ withBody h t body plan kind
+  unfolding withBody
+  put-none k = sym (nth-outside _ _ _ k)
+
+-- ---- record after record
 module _ (s : List ℕ) (h : Head) where
   -- the plan after t records
   unfoldable pub planAfter : (t : ℕ) → Plan

@@ -16,7 +16,7 @@ ghost use Rattle.plan.specs.Numbers.{numbers};
 ghost use Rattle.plan.specs.Refusal.{Head as HeadTaken};
 ghost use Rattle.planfile.specs.Format.{kindsOf, sizeOf, rec};
 ghost use Rattle.planfile.specs.Read.{amountsIn, sharesIn, noPlan, rangesOk, headAt, firstOk, kindsOk, sizesOk, planWith, layoutRefusal, readAnswer};
-ghost use Rattle.planfile.specs.Reading.{Inside, partOf, InRange, Laid, Due, withBody};
+ghost use Rattle.planfile.specs.Reading.{Inside, partOf, InRange, Laid};
 ghost use Rattle.planfile.specs.Write.{fileOf, writeAnswer, bufferAfter};
 ghost use Rattle.planfile.specs.Parts.{amountsBytes, sharesBytes, headBytes, paymentsBytes, outflowsBytes, rolloverBytes, ratesBytes, allocationBytes, Room, Wrote};
 
@@ -347,46 +347,8 @@ fn no_plan() -> Plan
     }
 }
 
-// The plan with the body of record t put into it: the record's kind decides the reading of its body. After check 4 no other kind comes up.
-fn with_body(mut plan: Plan, h: Head, t: usize, kind: usize, body: &[u8]) -> Plan
-    requires { ⌜ Due h t kind (now body) ⌝ }
-    ensures { λ r. ⌜ r ≡ withBody h t (now (body .entry)) plan kind ⌝ }
-{
-    match kind {
-        1 => {
-            plan.years = h.years;
-            plan.instruments = h.instruments;
-            plan.terms = h.terms;
-            plan.patterns = h.patterns;
-            plan
-        }
-        2 => {
-            let payments = amounts(body, h.years);
-            plan.instrument[t - 1] = Instrument { payments };
-            plan
-        }
-        3 => {
-            plan.outflows = amounts(body, h.years);
-            plan
-        }
-        4 => {
-            plan.rollover = shares(body, h.terms);
-            plan
-        }
-        5 => {
-            let rates = shares(body, h.years - 1);
-            plan.pattern[t - (h.instruments + 3)] = Pattern { rates };
-            plan
-        }
-        6 => {
-            plan.allocation = shares_16(body, h.instruments);
-            plan
-        }
-        _ => plan,
-    }
-}
-
-// The plan that the records of a file hold, which has passed checks 1 to 5.
+// The plan that the records of a file hold, which has passed checks 1 to 5: a record's kind decides the reading of its body. After
+// check 4 no other kind comes up.
 fn plan_with(file: &[u8], h: Head) -> Plan
     requires { ⌜ Laid (now file) h ⌝ }
     ensures { λ r. ⌜ r ≡ planWith (now (file .entry)) h ⌝ }
@@ -398,8 +360,34 @@ fn plan_with(file: &[u8], h: Head) -> Plan
         let next = record_at(file, at);
         match next {
             Next::Record { kind, start, end } => {
-                plan = with_body(plan, h, t, kind, body_at(file, start, end));
                 at = end;
+                let body = body_at(file, start, end);
+                match kind {
+                    1 => {
+                        plan.years = h.years;
+                        plan.instruments = h.instruments;
+                        plan.terms = h.terms;
+                        plan.patterns = h.patterns;
+                    }
+                    2 => {
+                        let payments = amounts(body, h.years);
+                        plan.instrument[t - 1] = Instrument { payments };
+                    }
+                    3 => {
+                        plan.outflows = amounts(body, h.years);
+                    }
+                    4 => {
+                        plan.rollover = shares(body, h.terms);
+                    }
+                    5 => {
+                        let rates = shares(body, h.years - 1);
+                        plan.pattern[t - (h.instruments + 3)] = Pattern { rates };
+                    }
+                    6 => {
+                        plan.allocation = shares_16(body, h.instruments);
+                    }
+                    _ => {}
+                }
             }
             Next::Stop { left: _ } => {
                 return plan;
