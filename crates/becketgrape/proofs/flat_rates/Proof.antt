@@ -1,0 +1,98 @@
+-- `becketgrape::flat_rates` puts down one row after the other (Rows, `Rowing`).
+use mathlib.Core.Path.{refl}
+use Prim.Native.Nat.{_-_}
+use native.Mathlib.Omega.{arith}
+use Rattle.becketgrape.specs.Arrays.{rateIn, flatRates}
+use Rattle.becketgrape.proofs.Rows.{Rowing, row-start, row-turn, row-next, rows-end}
+use Rattle.becketgrape.proofs.flat_rates.Statement.{statement}
+use Rattle.becketgrape.proofs.flat_rates.Tie as tie
+
+abbrev Inv-loop2 : tie.InvT-loop2
+Inv-loop2 rows flat₀ t rates k₀ flat k = Rowing 1920 (rateIn rows) 0 flat t k
+
+abbrev μ-loop2 : tie.MeasureT-loop2
+μ-loop2 rows flat₀ t rates k₀ flat k = 30 - k
+
+abbrev Inv-loop : tie.InvT-loop
+Inv-loop rows flat₀ t₀ flat t = Rowing 1920 (rateIn rows) 0 flat t 0
+
+abbrev μ-loop : tie.MeasureT-loop
+μ-loop rows flat₀ t₀ flat t = 64 - t
+
+loop-holds : tie.Need-loop-holds Inv-loop2 μ-loop2 Inv-loop μ-loop
+loop-holds c = row-start
+
+mul-row : tie.Need-mul-row Inv-loop2 μ-loop2 Inv-loop μ-loop
+mul-row c = omega arith
+
+array-copy-out-row : tie.Need-array-copy-out-row Inv-loop2 μ-loop2 Inv-loop μ-loop
+array-copy-out-row c = omega arith
+
+loop2-holds : tie.Need-loop2-holds Inv-loop2 μ-loop2 Inv-loop μ-loop
+loop2-holds c = c .before .before .before .loop .inv
+
+mul-flat : tie.Need-mul-flat Inv-loop2 μ-loop2 Inv-loop μ-loop
+mul-flat c = omega arith
+
+array-read-flat : tie.Need-array-read-flat Inv-loop2 μ-loop2 Inv-loop μ-loop
+array-read-flat c = omega arith
+
+mul-flat-2 : tie.Need-mul-flat-2 Inv-loop2 μ-loop2 Inv-loop μ-loop
+mul-flat-2 c = omega arith
+
+add-flat : tie.Need-add-flat Inv-loop2 μ-loop2 Inv-loop μ-loop
+add-flat c = omega arith
+
+mul-flat-3 : tie.Need-mul-flat-3 Inv-loop2 μ-loop2 Inv-loop μ-loop
+mul-flat-3 c = omega arith
+
+array-write-flat : tie.Need-array-write-flat Inv-loop2 μ-loop2 Inv-loop μ-loop
+array-write-flat c = omega arith
+
+add-k : tie.Need-add-k Inv-loop2 μ-loop2 Inv-loop μ-loop
+add-k c = omega arith
+
+loop2-less : tie.Need-loop2-less Inv-loop2 μ-loop2 Inv-loop μ-loop
+loop2-less c = omega arith
+
+loop2-again : tie.Need-loop2-again Inv-loop2 μ-loop2 Inv-loop μ-loop
+loop2-again c = row-turn (omega arith) (c .loop2-test .taken) (c .before .loop2 .inv) refl
+
+add-t : tie.Need-add-t Inv-loop2 μ-loop2 Inv-loop μ-loop
+add-t c = omega arith
+
+loop-less : tie.Need-loop-less Inv-loop2 μ-loop2 Inv-loop μ-loop
+loop-less c = omega arith
+
+loop-again : tie.Need-loop-again Inv-loop2 μ-loop2 Inv-loop μ-loop
+loop-again c = row-next (c .loop2-test .left) (c .before .loop2 .inv)
+
+returns : tie.Need-returns Inv-loop2 μ-loop2 Inv-loop μ-loop
+unfolding flatRates
+returns c = rows-end (omega arith) (c .before .loop .inv)
+
+pub flat-rates-spec : {M : Type 1} → statement M
+flat-rates-spec =
+    tie.close
+    (tie.spec
+    Inv-loop2
+    μ-loop2
+    Inv-loop
+    μ-loop
+    loop-holds
+    mul-row
+    array-copy-out-row
+    loop2-holds
+    mul-flat
+    array-read-flat
+    mul-flat-2
+    add-flat
+    mul-flat-3
+    array-write-flat
+    add-k
+    loop2-less
+    loop2-again
+    add-t
+    loop-less
+    loop-again
+    returns)

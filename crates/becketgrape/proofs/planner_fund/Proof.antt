@@ -1,0 +1,22 @@
+-- `becketgrape::planner_fund` puts down what `fund_of_file` answers.
+use borrow.Author.Needs.{needs}
+use mathlib.Core.Path.{sym, subst}
+use mir.Syntax.{w64}
+use mir.Val.{SFits}
+use Rattle.whole.proofs.Range.{back}
+use Rattle.planner.specs.Demand3.{FundNear}
+use Rattle.becketgrape.proofs.OnFile.{fund-near}
+use Rattle.becketgrape.proofs.planner_fund.Statement.{statement}
+use Rattle.becketgrape.proofs.planner_fund.Tie as tie
+
+fund-of-file-requires : tie.Need-fund-of-file-requires
+fund-of-file-requires c κs = search needs
+
+returns : tie.Need-returns
+returns c =
+    let d = c .before .fund-of-file in
+    let z : SFits w64 (d .result .fund) = search (needs, c .struct-told .given) in
+    simp (back, z) (d .ensures, subst (FundNear _ _) (sym (d .ensures)) (fund-near _ _))
+
+pub planner-fund-spec : {M : Type 1} → statement M
+planner-fund-spec = tie.close (tie.spec fund-of-file-requires returns)

@@ -1,0 +1,24 @@
+-- `becketgrape::planner_read` puts down what the file was read as.
+use mathlib.Core.Path.{refl}
+use borrow.Author.Needs.{needs}
+use Rattle.becketgrape.proofs.planner_read.Statement.{statement}
+use Rattle.becketgrape.proofs.planner_read.Tie as tie
+
+read-requires : tie.Need-read-requires
+read-requires c κs = search needs
+
+flat-payments-requires : tie.Need-flat-payments-requires
+flat-payments-requires c κs = search needs
+
+flat-rates-requires : tie.Need-flat-rates-requires
+flat-rates-requires c κs = search needs
+
+returns : tie.Need-returns
+returns c =
+    let rates = c .before .flat-rates in
+    let payments = c .before .before .before .before .before .flat-payments in
+    let read = c .before .before .before .before .before .before .before .before .read in
+    rw (← (read .ensures)) (refl, (refl, (refl, (refl, (refl, (payments .ensures, (refl, (refl, (rates .ensures, refl)))))))))
+
+pub planner-read-spec : {M : Type 1} → statement M
+planner-read-spec = tie.close (tie.spec read-requires flat-payments-requires flat-rates-requires returns)

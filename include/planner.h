@@ -1,0 +1,130 @@
+/* The planner's calls, for programs in C.
+ *
+ * Link target/staticlib/libbecketgrape.a, which `rt staticlib becketgrape` builds. Every function is proved against the contract
+ * that stands with it in crates/becketgrape/src/lib.rt. It asks of the caller only what C's pointers must be: each is to as many
+ * elements as its declaration or the length beside it says, a buffer that is written overlaps no other, and a file of no bytes has
+ * a pointer that is not null. There is no state and no allocation.
+ *
+ * A plan file goes in as bytes (any bytes: what is no plan file is refused), and the answer comes back in lent buffers. Each call
+ * answers a refusal: PLANNER_ACCEPTED, or the number of the first check that fails. On a refusal every number of the answer is 0;
+ * entries past the plan's own years, instruments, terms and patterns are always 0. Amounts are whole numbers in the unit of the
+ * file, shares and rates are millionths. */
+#ifndef PLANNER_H
+#define PLANNER_H
+
+#include <stddef.h>
+#include <stdint.h>
+
+#ifdef __cplusplus
+extern "C" {
+#define PLANNER_AT_LEAST(count)
+#else
+#define PLANNER_AT_LEAST(count) static count
+#endif
+
+/* The most that a plan can have, and the most bytes of a plan file and of a listing. */
+#define PLANNER_YEARS 30
+#define PLANNER_INSTRUMENTS 16
+#define PLANNER_TERMS 30
+#define PLANNER_PATTERNS 64
+#define PLANNER_FILE_BYTES 16384
+#define PLANNER_LISTING_BYTES 32768
+
+/* What a call answers, by number: the checks in their order. */
+enum planner_refusal {
+    PLANNER_ACCEPTED = 0,
+    PLANNER_FILE_TOO_LONG = 1,   /* the file is longer than PLANNER_FILE_BYTES */
+    PLANNER_FILE_CUT = 2,        /* the last record is not whole */
+    PLANNER_HEAD = 3,            /* the head is missing or not four bytes, or a number in it is outside its range */
+    PLANNER_KINDS = 4,           /* the sequence of kinds is not that of a plan */
+    PLANNER_LENGTH = 5,          /* a record's length is not what its kind and the head require */
+    PLANNER_AMOUNT = 6,          /* a payment or an outflow is outside its range */
+    PLANNER_ROLLOVER = 7,        /* the rollover shares do not sum to 1,000,000 */
+    PLANNER_RATE = 8,            /* a rate is above 200,000 */
+    PLANNER_ALLOCATION = 9,      /* the allocation does not sum to 1,000,000 */
+    PLANNER_PATTERN = 10,        /* the pattern number is outside 1 to m */
+    PLANNER_OUT_OF_LIMIT = 11,   /* a cell or a fund is outside +-1,000,000,000,000 */
+    PLANNER_BUFFER_TOO_SHORT = 12 /* the buffer is shorter than the file that goes into it */
+};
+
+/* What is said of a pattern, and of a plan. */
+enum planner_word {
+    PLANNER_SOLVENT = 1, /* the exact fund is zero or more, in this pattern or in every one */
+    PLANNER_SHORT = 2,   /* the exact fund is below zero, in this pattern or in some one */
+    PLANNER_CLOSE = 3    /* the reckoned fund lies too near to zero to say */
+};
+
+/* A plan held as values. payments[j][k] is what instrument j + 1 pays in year k + 1 per 1,000,000,000 put in; rates[t][k] is the
+ * rate i_(k+2) of pattern t + 1. */
+struct planner_plan {
+    size_t years, instruments, terms, patterns;
+    int64_t payments[PLANNER_INSTRUMENTS][PLANNER_YEARS];
+    int64_t outflows[PLANNER_YEARS];
+    uint32_t rollover[PLANNER_TERMS];
+    uint32_t rates[PLANNER_PATTERNS][PLANNER_YEARS];
+    uint32_t allocation[PLANNER_INSTRUMENTS];
+};
+
+/* The listing of a file, into the first bytes of `out`; answers how many they are. The other bytes of `out` are untouched. A file
+ * that is refused is listed as `refused` and its number. */
+size_t planner_list(const uint8_t *file, size_t file_length, uint8_t out[PLANNER_AT_LEAST(PLANNER_LISTING_BYTES)]);
+
+/* The plan that a file holds. Rows of payments and of rates come one after the other, PLANNER_YEARS to a row. Refusals 1 to 9. */
+uint8_t planner_read(const uint8_t *file, size_t file_length,
+                     size_t *years, size_t *instruments, size_t *terms, size_t *patterns,
+                     int64_t payments[PLANNER_AT_LEAST(PLANNER_INSTRUMENTS * PLANNER_YEARS)],
+                     int64_t outflows[PLANNER_AT_LEAST(PLANNER_YEARS)],
+                     uint32_t rollover[PLANNER_AT_LEAST(PLANNER_TERMS)],
+                     uint32_t rates[PLANNER_AT_LEAST(PLANNER_PATTERNS * PLANNER_YEARS)],
+                     uint32_t allocation[PLANNER_AT_LEAST(PLANNER_INSTRUMENTS)]);
+
+/* The file of a plan, into the first bytes of `buffer`, and its length. What the arrays hold past the plan's own numbers plays no
+ * part. Refusals 3, 6 to 9 and 12; on a refusal the buffer is untouched and the length is 0. */
+uint8_t planner_write(size_t years, size_t instruments, size_t terms, size_t patterns,
+                      const int64_t payments[PLANNER_AT_LEAST(PLANNER_INSTRUMENTS * PLANNER_YEARS)],
+                      const int64_t outflows[PLANNER_AT_LEAST(PLANNER_YEARS)],
+                      const uint32_t rollover[PLANNER_AT_LEAST(PLANNER_TERMS)],
+                      const uint32_t rates[PLANNER_AT_LEAST(PLANNER_PATTERNS * PLANNER_YEARS)],
+                      const uint32_t allocation[PLANNER_AT_LEAST(PLANNER_INSTRUMENTS)],
+                      uint8_t *buffer, size_t buffer_length, size_t *length);
+
+/* The calls on one pattern, counted from 1. Refusals 1 to 11; the bound's call reckons no cell and has no 11. */
+
+/* The reckoned fund: never above the exact fund, and below it by less than the bound. */
+uint8_t planner_fund(const uint8_t *file, size_t file_length, size_t pattern, int64_t *fund);
+
+/* The bound B. */
+uint8_t planner_bound(const uint8_t *file, size_t file_length, size_t pattern, int64_t *bound);
+
+/* The linear form: K_1 to K_n, Q, and its value at the plan's allocation. */
+uint8_t planner_form(const uint8_t *file, size_t file_length, size_t pattern,
+                     int64_t coefficients[PLANNER_AT_LEAST(PLANNER_INSTRUMENTS)], int64_t *constant, int64_t *value);
+
+/* The table of gammas: PLANNER_YEARS rows of PLANNER_YEARS, one after the other; entry l of row k stands at (k - 2) * PLANNER_YEARS
+ * + (l - 1). */
+uint8_t planner_gammas(const uint8_t *file, size_t file_length, size_t pattern,
+                       int64_t gammas[PLANNER_AT_LEAST(PLANNER_YEARS * PLANNER_YEARS)]);
+
+/* The verdict: the word of each pattern, the short ones as bits (bit t - 1 for pattern t), the plan's word. Refusals 1 to 9, 11. */
+uint8_t planner_verdict(const uint8_t *file, size_t file_length,
+                        uint8_t words[PLANNER_AT_LEAST(PLANNER_PATTERNS)], uint64_t *shorts, uint8_t *word);
+
+/* planner_read and planner_write on a struct. */
+static inline uint8_t planner_read_plan(const uint8_t *file, size_t file_length, struct planner_plan *plan)
+{
+    return planner_read(file, file_length, &plan->years, &plan->instruments, &plan->terms, &plan->patterns,
+                        (int64_t *)plan->payments, plan->outflows, plan->rollover, (uint32_t *)plan->rates, plan->allocation);
+}
+
+static inline uint8_t planner_write_plan(const struct planner_plan *plan, uint8_t *buffer, size_t buffer_length, size_t *length)
+{
+    return planner_write(plan->years, plan->instruments, plan->terms, plan->patterns,
+                         (const int64_t *)plan->payments, plan->outflows, plan->rollover, (const uint32_t *)plan->rates,
+                         plan->allocation, buffer, buffer_length, length);
+}
+
+#ifdef __cplusplus
+}
+#endif
+
+#endif
