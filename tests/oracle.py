@@ -48,6 +48,18 @@ class Plan:
         return self.allocation[j - 1]
 
 
+class Values:
+    """A plan held as values: N, n, q and m, any numbers, and arrays of the largest sizes."""
+
+    def __init__(self, head, payments, outflows, rollover, rates, allocation):
+        self.head = head
+        self.payments = payments      # 16 rows of 30
+        self.outflows = outflows      # 30
+        self.rollover = rollover      # 30
+        self.rates = rates            # 64 rows of 30
+        self.allocation = allocation  # 16
+
+
 # ---- the plan file
 
 
@@ -77,8 +89,7 @@ def read(data):
     if not found or found[0][0] != 1 or len(found[0][1]) != 4:
         raise Refused(3)
     N, n, q, m = found[0][1]
-    if not (1 <= N <= 30 and 1 <= n <= 16 and 1 <= q <= 30 and 1 <= m <= 64):
-        raise Refused(3)
+    head(N, n, q, m)
     if [kind for kind, _ in found] != [1] + [2] * n + [3, 4] + [5] * m + [6]:
         raise Refused(4)
     size = {1: 4, 2: 8 * N, 3: 8 * N, 4: 4 * q, 5: 4 * (N - 1), 6: 4 * n}
@@ -94,6 +105,12 @@ def read(data):
     )
     check(plan)
     return plan
+
+
+def head(N, n, q, m):
+    """Check 3, the ranges."""
+    if not (1 <= N <= 30 and 1 <= n <= 16 and 1 <= q <= 30 and 1 <= m <= 64):
+        raise Refused(3)
 
 
 def check(plan):
@@ -124,6 +141,29 @@ def write(plan):
     for row in plan.rates:
         out += record(5, "I", row)
     return out + record(6, "I", plan.allocation)
+
+
+def held(values):
+    """The plan of values; checks 3 and 6 to 9. What stands past its N, n, q and m plays no part."""
+    head(*values.head)
+    N, n, q, m = values.head
+    plan = Plan(
+        [row[:N] for row in values.payments[:n]],
+        values.outflows[:N],
+        values.rollover[:q],
+        [row[:N - 1] for row in values.rates[:m]],
+        values.allocation[:n],
+    )
+    check(plan)
+    return plan
+
+
+def put(values, room):
+    """The file of values, into a buffer of `room` bytes; check 12."""
+    data = write(held(values))
+    if room < len(data):
+        raise Refused(12)
+    return data
 
 
 # ---- the yearly reckoning
@@ -230,13 +270,40 @@ def verdict(plan):
     return rows, bits, 2 if bits else 1 if all(row[0] == 1 for row in rows) else 3
 
 
-def listing(data):
-    """What the program prints for a file."""
-    try:
-        rows, bits, plan_word = verdict(read(data))
-    except Refused as refusal:
-        return f"refused {refusal.number}\n"
+def printed(rows, plan_word):
+    """The lines of a verdict."""
     short = [t for t, row in enumerate(rows, 1) if row[0] == 2]
     lines = [f"{t} {WORDS[row[0]]} " + " ".join(map(str, [row[1], row[2], *row[3], row[4]])) for t, row in enumerate(rows, 1)]
     lines.append(f"{WORDS[plan_word]} {len(short)} {short[0] if short else 0}")
     return "\n".join(lines) + "\n"
+
+
+def listing(data):
+    """What the program prints for a file."""
+    try:
+        rows, _, plan_word = verdict(read(data))
+    except Refused as refusal:
+        return f"refused {refusal.number}\n"
+    return printed(rows, plan_word)
+
+
+# ---- demand 3
+
+
+def untrue(plan, answers, plan_word=None):
+    """What demand 3 says of answers, against H: the first that is not so, or nothing. `answers` has the word, fund, bound and form's
+    value of each pattern; a word, fund or value that was not answered is None. A plan's word goes with those of all patterns."""
+    unit = 10 ** (12 * plan.N)
+    below = []
+    for t, (word, fund, bound, value) in answers.items():
+        H = exact(plan, t)
+        below.append(H < 0)
+        if fund is not None and not 0 <= H - fund * unit < bound * unit:
+            return f"the fund of pattern {t}"
+        if value is not None and not 0 <= H - value * unit < (2 * bound + 1) * unit:
+            return f"the form of pattern {t}"
+        if word == 1 and H < 0 or word == 2 and H >= 0:
+            return f"the word of pattern {t}"
+    if plan_word == 1 and any(below) or plan_word == 2 and not any(below):
+        return "the word of the plan"
+    return None

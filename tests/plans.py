@@ -2,7 +2,7 @@
 
 Sizes go over all of N, n, q and m; notes are plain or odd; outflows are matched to the flow, so that funds lie within a few
 units of zero and loans roll into loans to the last year; rates are level, rising or wild; amounts lie at the ends of their
-ranges, and cells at 10^12 and one past it.
+ranges, and cells and funds at 10^12 and one past it, on both sides of zero.
 """
 import struct
 
@@ -74,38 +74,117 @@ def plain(rng):
     return matched(rng, plan) if rng.random() < 0.7 else plan
 
 
+def largest(rng):
+    """As many of everything as there can be, with amounts that stay within the limit."""
+    N, n, q, m = 30, 16, 30, 64
+    outflows = [rng.randint(-10 ** 8, 10 ** 8) for _ in range(N)]
+    payments = [[rng.randint(0, 10 ** 8) for _ in range(N)] for _ in range(n)]
+    return matched(rng, oracle.Plan(payments, outflows, parts(rng, q), [pattern(rng, N) for _ in range(m)], parts(rng, n)))
+
+
 def at_the_limit(rng):
-    """One instrument and an income of its own size, rolled over every year: the last cell is 10^12, or one past it."""
-    rate = rng.randint(100000, TOP)
-    amount, N, cell = 10 ** 10, 0, 0
-    while cell < oracle.LIMIT and N < 30:
-        N, cell = N + 1, 2 * amount + cell + oracle.share(cell, rate)
-    plan = oracle.Plan([[amount] * N], [-amount] * N, [oracle.MILLION], [[rate] * (N - 1)], [oracle.MILLION])
-    last = max(oracle.cells(plan, 1, oracle.flow(plan)).items())[1]
-    plan.outflows[-1] += last - oracle.LIMIT - rng.choice([0, 0, 1])
+    """In one of the patterns one flow, that of the allocation, an instrument or the outflows, comes to 10^12 or -10^12, or past it:
+    its fund and its last cell (all is rolled over every year), its fund and no cell (nothing is before the horizon), or its last
+    cell but one and not its fund."""
+    N, m = rng.randint(24, 30), rng.randint(1, 3)
+    whose = rng.choice(["allocation", "instrument", "outflows"])
+    where = rng.choice(["cell and fund", "fund"] + ["cell"] * (whose != "instrument"))
+    sign = 1 if whose == "instrument" else rng.choice([1, -1])
+    rates = [[0] * (N - 1) for _ in range(m)]
+    t = rng.randint(1, m)
+    rates[t - 1] = [rng.randint(120000, TOP)] * (N - 1)
+    plan = oracle.Plan([[0] * N, [0] * N], [0] * N, [0] * 29 * (where == "fund") + [oracle.MILLION], rates, [0, oracle.MILLION])
+    end = N
+    if where == "cell":
+        end, rates[t - 1][-1] = N - 1, 0
+
+    def flow(step, last):
+        return {k: step if k < end else last if k == end else -sign * 10 ** 9 for k in range(1, N + 1)}
+
+    def reached(flow):
+        alpha = oracle.cells(plan, t, flow)
+        return alpha[N] if where == "cell" else sum(oracle.share(alpha[k], oracle.w(plan, N + 1 - k)) for k in alpha)
+
+    wanted = sign * (oracle.LIMIT + rng.choice([0, 0, 1, 1, 10 ** 6]))
+    step = wanted * 10 ** 9 // reached(flow(10 ** 9, 10 ** 9))
+    x = list(flow(step, step + wanted - reached(flow(step, step))).values())
+    if whose == "instrument":
+        plan.payments[0] = x
+    else:
+        # where payments can see to it, the other flows stay away from the limit
+        near = whose, sign
+        paid = step // 2 if near == ("allocation", 1) else -step if near == ("outflows", -1) else 0
+        plan.payments[1] = [paid] * N
+        plan.outflows = [-y for y in x] if whose == "outflows" else [paid - y for y in x]
     return plan
+
+
+def spoil(rng, plan, check):
+    """One number of the plan is changed such that check 6, 7, 8 or 9 fails."""
+
+    def shares(of):
+        j = rng.randrange(len(of))
+        kind = rng.randint(1, 4)
+        if kind == 1 and of[j] > 0:
+            of[j] -= 1
+        elif kind == 2 and len(of) > 1:
+            # the sum is 1,000,000 again in 32 bits
+            for at in (j, j - 1):
+                of[at] = (of[at] + 2 ** 31) % 2 ** 32
+        else:
+            of[j] += rng.choice([1, oracle.MILLION])
+
+    if check == 6 and rng.random() < 0.5:
+        rng.choice(plan.payments)[rng.randrange(plan.N)] = rng.choice([-1, MOST + 1, 2 ** 63 - 1, -2 ** 63])
+    elif check == 6:
+        plan.outflows[rng.randrange(plan.N)] = rng.choice([-MOST - 1, MOST + 1, 2 ** 63 - 1, -2 ** 63])
+    elif check == 7:
+        shares(plan.rollover)
+    elif check == 8 and plan.N > 1:
+        rng.choice(plan.rates)[rng.randrange(plan.N - 1)] = rng.choice([TOP + 1, 2 ** 32 - 1])
+    else:
+        shares(plan.allocation)
 
 
 def outside(rng):
-    """A plan with one number past its range: refused 6 to 9."""
+    """A plan with a number or two past their ranges: refused 6 to 9."""
     plan = plain(rng)
-    kind = rng.randint(6, 9)
-    if kind == 6 and rng.random() < 0.5:
-        row = rng.choice(plan.payments)
-        row[rng.randrange(plan.N)] = rng.choice([-1, MOST + 1, 2 ** 63 - 1, -2 ** 63])
-    elif kind == 6:
-        plan.outflows[rng.randrange(plan.N)] = rng.choice([-MOST - 1, MOST + 1, 2 ** 63 - 1, -2 ** 63])
-    elif kind == 7:
-        plan.rollover[rng.randrange(plan.q)] += rng.choice([1, 10 ** 6])
-    elif kind == 8 and plan.N > 1:
-        rng.choice(plan.rates)[rng.randrange(plan.N - 1)] = rng.choice([TOP + 1, 2 ** 32 - 1])
-    else:
-        plan.allocation[rng.randrange(plan.n)] += rng.choice([1, 10 ** 6])
+    for check in rng.sample([6, 7, 8, 9], rng.choice([1, 1, 2])):
+        spoil(rng, plan, check)
     return plan
 
 
+def values(rng, plan):
+    """The plan held as values, with anything past its N, n, q and m; now and then one number of the head is outside its range."""
+    kind = rng.randint(1, 4)
+
+    def rest(amount):
+        low, high = (-2 ** 63, 2 ** 63 - 1) if amount else (0, 2 ** 32 - 1)
+        if kind == 1:
+            return 0
+        if kind == 2:
+            return rng.randint(0, 1000)
+        if kind == 3:
+            return rng.choice([low, high, -1, MOST + 1] if amount else [high, 2 ** 31, TOP + 1, oracle.MILLION])
+        return rng.randint(low, high)
+
+    def filled(row, count, amount=False):
+        return row + [rest(amount) for _ in range(count - len(row))]
+
+    def rows(of, count, amount=False):
+        return [filled(row, 30, amount) for row in of + [[]] * (count - len(of))]
+
+    head = [plan.N, plan.n, plan.q, plan.m]
+    if rng.random() < 0.2:
+        at = rng.randrange(4)
+        top = [30, 16, 30, 64][at]
+        head[at] = rng.choice([0, top + 1, 2 ** 8 + head[at], 2 ** 32 + head[at], 2 ** 40, 2 ** 64 - 1])
+    return oracle.Values(head, rows(plan.payments, 16, True), filled(plan.outflows, 30, True), filled(plan.rollover, 30),
+                         rows(plan.rates, 64), filled(plan.allocation, 16))
+
+
 def damaged(rng, data):
-    """A file cut, padded, with a byte or a length changed, with records swapped, dropped or doubled."""
+    """A file cut, padded, with a byte changed, or with records swapped, dropped, doubled or of another length."""
     kind = rng.randint(1, 8)
     if kind == 1:
         return data[:rng.randrange(len(data))]
@@ -119,14 +198,15 @@ def damaged(rng, data):
     if kind == 5:
         return data[:4] + bytes([rng.choice([0, 1, 17, 31, 65, 255]) if k == 0 else x for k, x in enumerate(data[4:8])]) + data[8:]
     found = oracle.records(data)
-    i, j = rng.randrange(len(found)), rng.randrange(len(found))
-    if kind == 6:
-        found[i], found[j] = found[j], found[i]
-    elif kind == 7:
-        found[i:i + 1] = rng.choice([[], [found[i]] * 2])
-    else:
-        kind_i, body = found[i]
-        found[i] = (kind_i, rng.choice([body[:-1], body + b"\0", body[:-4], body + bytes(4), body + bytes(8)]))
+    for kind in [kind] + [rng.randint(6, 8) for _ in range(rng.choice([0, 1]))]:
+        i, j = rng.randrange(len(found)), rng.randrange(len(found))
+        if kind == 6:
+            found[i], found[j] = found[j], found[i]
+        elif kind == 7:
+            found[i:i + 1] = rng.choice([[], [found[i]] * 2])
+        else:
+            kind_i, body = found[i]
+            found[i] = (kind_i, rng.choice([body[:-1], body + b"\0", body[:-4], body + bytes(4), body + bytes(8)]))
     return b"".join(struct.pack("<HH", len(body), kind) + body for kind, body in found)
 
 
@@ -141,4 +221,4 @@ def file(rng):
         return oracle.write(outside(rng))
     if kind < 0.72:
         return bytes(rng.randrange(256) for _ in range(rng.randrange(40)))
-    return damaged(rng, oracle.write(plain(rng)))
+    return damaged(rng, oracle.write(plain(rng) if rng.random() < 0.8 else outside(rng)))

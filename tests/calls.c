@@ -1,0 +1,296 @@
+/* The driver of tests/calls: takes requests from standard input, makes every call of planner.h on each, and prints what it got, a
+ * line a call. A request is struct request as it stands, then the bytes of the file.
+ *
+ * What is lent to be read ends where memory ends, so that reading past it stops the driver. What is lent to be filled lies between
+ * guards; it and they hold known bytes before the call. A line ends in ` guards` if one of these changed, and in ` lent` if what
+ * was lent to be read did. Bytes are printed in hexadecimal, as many as the call says it wrote or more if it changed more. */
+#define _GNU_SOURCE
+#include <inttypes.h>
+#include <stdio.h>
+#include <stdlib.h>
+#include <string.h>
+#include <sys/mman.h>
+#include <unistd.h>
+
+#include "planner.h"
+
+enum {
+    PAYMENTS = PLANNER_INSTRUMENTS * PLANNER_YEARS,
+    RATES = PLANNER_PATTERNS * PLANNER_YEARS,
+    GAMMAS = PLANNER_YEARS * PLANNER_YEARS,
+    GUARD = 64,
+    SECONDS = 20 /* for all calls of a request */
+};
+
+struct request {
+    uint64_t file_length, pattern, room, fill, years, instruments, terms, patterns;
+    int64_t payments[PAYMENTS], outflows[PLANNER_YEARS];
+    uint32_t rollover[PLANNER_TERMS], rates[RATES], allocation[PLANNER_INSTRUMENTS];
+};
+
+static struct request request;
+
+static void need(int holds, const char *what)
+{
+    if (!holds) {
+        fprintf(stderr, "calls: %s\n", what);
+        exit(2);
+    }
+}
+
+/* What is lent to be read: copies of up to `most` bytes, flush with the end of a mapping that an inaccessible page follows. */
+struct source {
+    uint8_t *end;
+    const void *first; /* what was copied */
+    size_t size;
+};
+
+static struct source sources[6];
+static size_t source_count;
+
+static void map_source(struct source *source, size_t most)
+{
+    size_t page = (size_t)sysconf(_SC_PAGESIZE), size = (most + page - 1) / page * page;
+    uint8_t *at = mmap(NULL, size + page, PROT_READ | PROT_WRITE, MAP_PRIVATE | MAP_ANONYMOUS, -1, 0);
+    need(at != MAP_FAILED && mprotect(at + size, page, PROT_NONE) == 0, "no memory");
+    source->end = at + size;
+}
+
+static const void *source(const void *first, size_t size)
+{
+    struct source *to = &sources[source_count++];
+    to->first = first;
+    to->size = size;
+    return memcpy(to->end - size, first, size);
+}
+
+/* What is lent to be filled. */
+struct target {
+    uint8_t *at;
+    size_t size;
+};
+
+static _Alignas(64) uint8_t arena[1 << 20];
+static struct target targets[16];
+static size_t target_count, used;
+
+static uint8_t known(const uint8_t *at)
+{
+    return (uint8_t)(request.fill + 37 * (size_t)(at - arena));
+}
+
+static void *target(size_t size)
+{
+    uint8_t *from = arena + used, *at = from + GUARD;
+    used += (GUARD + size + GUARD + 63) / 64 * 64;
+    need(used <= sizeof arena, "no room for what is lent");
+    for (uint8_t *p = from; p < at + size + GUARD; p++)
+        *p = known(p);
+    targets[target_count++] = (struct target){at, size};
+    return at;
+}
+
+static void begin(const char *name)
+{
+    target_count = source_count = used = 0;
+    fputs(name, stdout);
+}
+
+static void end(void)
+{
+    int guards = 0, lent = 0;
+    for (size_t t = 0; t < target_count; t++)
+        for (size_t k = 0; k < GUARD; k++) {
+            const uint8_t *before = targets[t].at - GUARD + k, *after = targets[t].at + targets[t].size + k;
+            guards |= *before != known(before) || *after != known(after);
+        }
+    for (size_t s = 0; s < source_count; s++)
+        lent |= memcmp(sources[s].end - sources[s].size, sources[s].first, sources[s].size) != 0;
+    puts(guards ? lent ? " guards lent" : " guards" : lent ? " lent" : "");
+}
+
+static void put(uint64_t number)
+{
+    printf(" %" PRIu64, number);
+}
+
+static void put_signed(const int64_t *numbers, size_t count)
+{
+    for (size_t k = 0; k < count; k++)
+        printf(" %" PRId64, numbers[k]);
+}
+
+static void put_unsigned(const uint32_t *numbers, size_t count)
+{
+    for (size_t k = 0; k < count; k++)
+        printf(" %" PRIu32, numbers[k]);
+}
+
+static void put_bytes(const uint8_t *bytes, size_t size, size_t length)
+{
+    static const char digits[] = "0123456789abcdef";
+    size_t reach = size;
+    while (reach > 0 && bytes[reach - 1] == known(bytes + reach - 1))
+        reach--;
+    if (length <= size && length > reach)
+        reach = length;
+    fputs(reach ? " " : " -", stdout);
+    for (size_t k = 0; k < reach; k++) {
+        putchar(digits[bytes[k] >> 4]);
+        putchar(digits[bytes[k] & 15]);
+    }
+}
+
+/* The calls. The file is the first source of each that takes one. */
+
+static void call_list(const uint8_t *bytes)
+{
+    begin("list");
+    const uint8_t *file = source(bytes, request.file_length);
+    uint8_t *out = target(PLANNER_LISTING_BYTES);
+    size_t length = planner_list(file, request.file_length, out);
+    put(length);
+    put_bytes(out, PLANNER_LISTING_BYTES, length);
+    end();
+}
+
+static void call_read(const uint8_t *bytes)
+{
+    begin("read");
+    const uint8_t *file = source(bytes, request.file_length);
+    size_t *years = target(sizeof *years), *instruments = target(sizeof *instruments);
+    size_t *terms = target(sizeof *terms), *patterns = target(sizeof *patterns);
+    int64_t *payments = target(PAYMENTS * sizeof *payments), *outflows = target(PLANNER_YEARS * sizeof *outflows);
+    uint32_t *rollover = target(PLANNER_TERMS * sizeof *rollover), *rates = target(RATES * sizeof *rates);
+    uint32_t *allocation = target(PLANNER_INSTRUMENTS * sizeof *allocation);
+    put(planner_read(file, request.file_length, years, instruments, terms, patterns,
+                     payments, outflows, rollover, rates, allocation));
+    put(*years);
+    put(*instruments);
+    put(*terms);
+    put(*patterns);
+    put_signed(payments, PAYMENTS);
+    put_signed(outflows, PLANNER_YEARS);
+    put_unsigned(rollover, PLANNER_TERMS);
+    put_unsigned(rates, RATES);
+    put_unsigned(allocation, PLANNER_INSTRUMENTS);
+    end();
+}
+
+static void call_write(void)
+{
+    begin("write");
+    source_count = 1;
+    const int64_t *payments = source(request.payments, sizeof request.payments);
+    const int64_t *outflows = source(request.outflows, sizeof request.outflows);
+    const uint32_t *rollover = source(request.rollover, sizeof request.rollover);
+    const uint32_t *rates = source(request.rates, sizeof request.rates);
+    const uint32_t *allocation = source(request.allocation, sizeof request.allocation);
+    uint8_t *buffer = target(request.room);
+    size_t *length = target(sizeof *length);
+    put(planner_write(request.years, request.instruments, request.terms, request.patterns,
+                      payments, outflows, rollover, rates, allocation, buffer, request.room, length));
+    put(*length);
+    put_bytes(buffer, request.room, *length);
+    end();
+}
+
+/* The plan that was read, written again: the numbers of both calls, and what was written. */
+static void call_again(const uint8_t *bytes)
+{
+    begin("again");
+    const uint8_t *file = source(bytes, request.file_length);
+    struct planner_plan *plan = target(sizeof *plan);
+    put(planner_read_plan(file, request.file_length, plan));
+    uint8_t *buffer = target(request.file_length);
+    size_t *length = target(sizeof *length);
+    put(planner_write_plan(plan, buffer, request.file_length, length));
+    put(*length);
+    put_bytes(buffer, request.file_length, *length);
+    end();
+}
+
+static void call_fund(const uint8_t *bytes)
+{
+    begin("fund");
+    const uint8_t *file = source(bytes, request.file_length);
+    int64_t *fund = target(sizeof *fund);
+    put(planner_fund(file, request.file_length, request.pattern, fund));
+    put_signed(fund, 1);
+    end();
+}
+
+static void call_bound(const uint8_t *bytes)
+{
+    begin("bound");
+    const uint8_t *file = source(bytes, request.file_length);
+    int64_t *bound = target(sizeof *bound);
+    put(planner_bound(file, request.file_length, request.pattern, bound));
+    put_signed(bound, 1);
+    end();
+}
+
+static void call_form(const uint8_t *bytes)
+{
+    begin("form");
+    const uint8_t *file = source(bytes, request.file_length);
+    int64_t *coefficients = target(PLANNER_INSTRUMENTS * sizeof *coefficients);
+    int64_t *constant = target(sizeof *constant), *value = target(sizeof *value);
+    put(planner_form(file, request.file_length, request.pattern, coefficients, constant, value));
+    put_signed(coefficients, PLANNER_INSTRUMENTS);
+    put_signed(constant, 1);
+    put_signed(value, 1);
+    end();
+}
+
+static void call_gammas(const uint8_t *bytes)
+{
+    begin("gammas");
+    const uint8_t *file = source(bytes, request.file_length);
+    int64_t *gammas = target(GAMMAS * sizeof *gammas);
+    put(planner_gammas(file, request.file_length, request.pattern, gammas));
+    put_signed(gammas, GAMMAS);
+    end();
+}
+
+static void call_verdict(const uint8_t *bytes)
+{
+    begin("verdict");
+    const uint8_t *file = source(bytes, request.file_length);
+    uint8_t *words = target(PLANNER_PATTERNS), *word = target(1);
+    uint64_t *shorts = target(sizeof *shorts);
+    put(planner_verdict(file, request.file_length, words, shorts, word));
+    for (size_t t = 0; t < PLANNER_PATTERNS; t++)
+        put(words[t]);
+    put(*shorts);
+    put(*word);
+    end();
+}
+
+int main(void)
+{
+    static uint8_t bytes[1 << 17];
+    map_source(&sources[0], sizeof bytes);
+    map_source(&sources[1], sizeof request.payments);
+    map_source(&sources[2], sizeof request.outflows);
+    map_source(&sources[3], sizeof request.rollover);
+    map_source(&sources[4], sizeof request.rates);
+    map_source(&sources[5], sizeof request.allocation);
+    while (fread(&request, sizeof request, 1, stdin) == 1) {
+        need(request.file_length <= sizeof bytes, "the file is too long");
+        need(fread(bytes, 1, request.file_length, stdin) == request.file_length, "the request is cut");
+        alarm(SECONDS);
+        call_read(bytes);
+        call_write();
+        call_again(bytes);
+        call_fund(bytes);
+        call_bound(bytes);
+        call_form(bytes);
+        call_gammas(bytes);
+        call_verdict(bytes);
+        call_list(bytes);
+        fflush(stdout);
+        alarm(0);
+    }
+    return 0;
+}
