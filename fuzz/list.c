@@ -1,0 +1,302 @@
+/* planner_list on any bytes. What must hold, or the program aborts: the listing is at most PLANNER_LISTING_BYTES long, nothing is
+ * changed after it, around the buffer or in the file, nothing is read or written outside what is lent, the text has the form of a
+ * listing, and the same file gives the same text again.
+ *
+ * Built for libFuzzer by fuzz/run, and with REPLAY as a program that takes files, or standard input, by fuzz/replay.
+ *
+ * The library is not instrumented. For libFuzzer its coverage is had by breakpoints: FUZZ_BLOCKS names a file with the address of
+ * every block of its code, a breakpoint is set on each, and one that is reached is counted and taken off until the next input. */
+#define _GNU_SOURCE
+#include <signal.h>
+#include <stdio.h>
+#include <stdlib.h>
+#include <string.h>
+#include <sys/mman.h>
+#include <ucontext.h>
+#include <unistd.h>
+
+#include "planner.h"
+
+enum { MOST_FILE = 1 << 17, GUARD = 4096, FILL = 0xa5 };
+
+static void must(int holds, const char *what)
+{
+    if (!holds) {
+        fprintf(stderr, "list: %s\n", what);
+        abort();
+    }
+}
+
+/* ---- the form of a listing */
+
+/* The refusal that the text is; 0 if it is the listing of a plan. */
+static int refusal_of(const uint8_t *text, size_t length)
+{
+    static const int refusals[] = {1, 2, 3, 4, 5, 6, 7, 8, 9, 11};
+    static char copy[PLANNER_LISTING_BYTES + 1];
+    memcpy(copy, text, length);
+    copy[length] = 0;
+    for (size_t k = 0; k < sizeof refusals / sizeof *refusals; k++) {
+        char refused[16];
+        sprintf(refused, "refused %d\n", refusals[k]);
+        if (strcmp(copy, refused) == 0)
+            return refusals[k];
+    }
+    must(length > 0 && strlen(copy) == length && copy[length - 1] == '\n', "the text does not end in a line feed");
+    must(strspn(copy, " -0123456789solventshortclose\n") == length, "the text has a character that no listing has");
+    int shorts = 0, lowest = 0, patterns = 0, form = 0;
+    for (char *line = copy, *end; *line; line = end + 1) {
+        int fields = 1, number;
+        char word[8];
+        end = strchr(line, '\n');
+        for (char *at = line; at < end; at++)
+            fields += *at == ' ';
+        if (end[1] == 0) {
+            int count = 0, first = 0;
+            must(fields == 3 && sscanf(line, "%7s %d %d", word, &count, &first) == 3, "the last line has another form");
+            must(count == shorts && first == lowest, "the last line is not that of the patterns");
+        } else {
+            must(sscanf(line, "%d %7s", &number, word) == 2 && number == ++patterns, "a line has another number");
+            must(fields >= 6 && fields <= 5 + PLANNER_INSTRUMENTS, "a line has another form");
+            must(form == 0 || form == fields, "the lines have different forms");
+            form = fields;
+            if (strcmp(word, "short") == 0 && shorts++ == 0)
+                lowest = number;
+        }
+        must(strcmp(word, "solvent") == 0 || strcmp(word, "short") == 0 || strcmp(word, "close") == 0, "a word is none of the three");
+    }
+    must(patterns >= 1 && patterns <= PLANNER_PATTERNS, "there are too few lines or too many");
+    return 0;
+}
+
+/* ---- one call */
+
+/* A piece of memory between two inaccessible pages. */
+static uint8_t *fenced(size_t size)
+{
+    size_t page = (size_t)sysconf(_SC_PAGESIZE);
+    uint8_t *at = mmap(NULL, size + 2 * page, PROT_READ | PROT_WRITE, MAP_PRIVATE | MAP_ANONYMOUS, -1, 0);
+    must(at != MAP_FAILED, "no memory");
+    must(mprotect(at, page, PROT_NONE) == 0 && mprotect(at + page + size, page, PROT_NONE) == 0, "no memory");
+    return at + page;
+}
+
+static int all_filled(const uint8_t *bytes, size_t count)
+{
+    return count == 0 || (bytes[0] == FILL && memcmp(bytes, bytes + 1, count - 1) == 0);
+}
+
+/* The listing of the file, into `out`, which holds FILL from `before` bytes before it to `after` bytes after its end. */
+static size_t list(const uint8_t *data, size_t size, uint8_t *file, uint8_t *out, size_t before, size_t after)
+{
+    if (size > 0)
+        memcpy(file, data, size);
+    memset(out - before, FILL, before + PLANNER_LISTING_BYTES + after);
+    size_t length = planner_list(file, size, out);
+    must(length <= PLANNER_LISTING_BYTES, "the listing is too long");
+    must(all_filled(out - before, before), "a byte before the buffer is changed");
+    must(all_filled(out + length, PLANNER_LISTING_BYTES - length + after), "a byte after the listing is changed");
+    must(size == 0 || memcmp(file, data, size) == 0, "the file is changed");
+    return length;
+}
+
+static int one_input(const uint8_t *data, size_t size)
+{
+    static uint8_t *file_room, *out_room;
+    if (!file_room) {
+        file_room = fenced(MOST_FILE);
+        out_room = fenced(PLANNER_LISTING_BYTES + GUARD);
+    }
+    /* In blocks of just the size, which valgrind sees. */
+    uint8_t *file = malloc(size), *out = malloc(PLANNER_LISTING_BYTES);
+    must(out && (file || size == 0), "no memory");
+    size_t length = list(data, size, file, out, 0, 0);
+    int refusal = refusal_of(out, length);
+    /* Flush with an inaccessible page at the end, then at the beginning. */
+    uint8_t *late = out_room + GUARD, *early = out_room;
+    must(list(data, size, file_room + MOST_FILE - size, late, GUARD, 0) == length && memcmp(late, out, length) == 0,
+         "the second listing is another");
+    must(list(data, size, file_room, early, 0, GUARD) == length && memcmp(early, out, length) == 0, "the third listing is another");
+    free(file);
+    free(out);
+    return refusal;
+}
+
+#ifdef REPLAY
+
+static void replay(FILE *from, const char *name)
+{
+    static uint8_t data[MOST_FILE];
+    size_t size = fread(data, 1, sizeof data, from);
+    if (ferror(from) || !feof(from)) {
+        fprintf(stderr, "list: %s cannot be read whole\n", name);
+        exit(2);
+    }
+    fclose(from);
+    one_input(data, size);
+}
+
+int main(int argc, char **argv)
+{
+    if (argc == 1)
+        replay(stdin, "standard input");
+    for (int k = 1; k < argc; k++) {
+        FILE *from = fopen(argv[k], "rb");
+        if (!from) {
+            perror(argv[k]);
+            return 2;
+        }
+        replay(from, argv[k]);
+    }
+    printf("%d files\n", argc == 1 ? 1 : argc - 1);
+    return 0;
+}
+
+#else
+
+/* ---- coverage by breakpoints */
+
+enum { BLOCKS = 1 << 14, BREAKPOINT = 0xcc };
+
+/* What libFuzzer looks at after each input: a counter for each block, for which was reached after which, and for what the plan and
+ * its listing are like. */
+#define COUNTERS __attribute__((section("__libfuzzer_extra_counters"))) static volatile uint8_t
+COUNTERS reached[BLOCKS];
+COUNTERS after[BLOCKS];
+COUNTERS like[512];
+
+static struct {
+    uint8_t *at, first; /* where it is, and its own first byte */
+    int ever;           /* whether any input has reached it */
+} blocks[BLOCKS];
+static size_t block_count, hits[BLOCKS], hit_count, plan_count;
+
+static void on_breakpoint(int number, siginfo_t *info, void *context)
+{
+    greg_t *pc = &((ucontext_t *)context)->uc_mcontext.gregs[REG_RIP];
+    uint8_t *at = (uint8_t *)*pc - 1;
+    size_t low = 0, high = block_count;
+    (void)info;
+    while (low + 1 < high) {
+        size_t middle = (low + high) / 2;
+        *(blocks[middle].at <= at ? &low : &high) = middle;
+    }
+    if (block_count == 0 || blocks[low].at != at || reached[low]) {
+        signal(number, SIG_DFL);
+        abort();
+    }
+    *at = blocks[low].first;
+    reached[low] = blocks[low].ever = 1;
+    if (hit_count > 0)
+        after[(hits[hit_count - 1] * 257 + low) % BLOCKS] = 1;
+    hits[hit_count++] = low;
+    *pc -= 1;
+}
+
+static void say_coverage(void)
+{
+    size_t ever = 0;
+    for (size_t k = 0; k < block_count; k++)
+        ever += blocks[k].ever;
+    fprintf(stderr, "stat::plans_listed:             %zu\n", plan_count);
+    fprintf(stderr, "stat::library_blocks_reached:   %zu of %zu\n", ever, block_count);
+}
+
+int LLVMFuzzerInitialize(int *argc, char ***argv)
+{
+    const char *name = getenv("FUZZ_BLOCKS");
+    FILE *from = name ? fopen(name, "r") : NULL;
+    unsigned long at;
+    (void)argc, (void)argv;
+    must(from != NULL, "FUZZ_BLOCKS names no file");
+    while (block_count < BLOCKS && fscanf(from, "%lx", &at) == 1)
+        blocks[block_count++].at = (uint8_t *)at; /* in rising order */
+    fclose(from);
+    must(block_count > 0 && block_count < BLOCKS, "FUZZ_BLOCKS has no blocks, or too many");
+    size_t page = (size_t)sysconf(_SC_PAGESIZE);
+    uint8_t *low = blocks[0].at - (size_t)blocks[0].at % page, *high = blocks[block_count - 1].at + 1;
+    must(mprotect(low, (size_t)(high - low), PROT_READ | PROT_WRITE | PROT_EXEC) == 0, "the code cannot be made writable");
+    struct sigaction action = {.sa_sigaction = on_breakpoint, .sa_flags = SA_SIGINFO};
+    must(sigaction(SIGTRAP, &action, NULL) == 0, "no handler for breakpoints");
+    for (size_t k = 0; k < block_count; k++) {
+        blocks[k].first = *blocks[k].at;
+        *blocks[k].at = BREAKPOINT;
+    }
+    atexit(say_coverage);
+    return 0;
+}
+
+int LLVMFuzzerTestOneInput(const uint8_t *data, size_t size)
+{
+    if (size > MOST_FILE)
+        return 0;
+    while (hit_count > 0)
+        *blocks[hits[--hit_count]].at = BREAKPOINT;
+    int refusal = one_input(data, size);
+    like[refusal] = 1;
+    plan_count += refusal == 0;
+    if (refusal == 0)
+        for (size_t k = 0; k < 4; k++)
+            like[64 + 64 * k + data[4 + k]] = 1; /* N, n, q, m */
+    return 0;
+}
+
+/* ---- mutations */
+
+size_t LLVMFuzzerMutate(uint8_t *data, size_t size, size_t most);
+
+/* Whether a whole record begins at `at`, and the length of its body. */
+static int record(const uint8_t *data, size_t size, size_t at, size_t *length)
+{
+    if (size - at < 4)
+        return 0;
+    *length = data[at] | (size_t)data[at + 1] << 8;
+    return size - at - 4 >= *length;
+}
+
+/* Amounts and rates go into their ranges, and shares are made to sum to 1,000,000 by the last one. */
+static void put_right(unsigned kind, uint8_t *body, size_t length)
+{
+    for (size_t k = 0; (kind == 2 || kind == 3) && k + 8 <= length; k += 8) {
+        int64_t amount;
+        memcpy(&amount, body + k, 8);
+        amount %= 20000000001;
+        if (kind == 2 && amount < 0)
+            amount = -amount;
+        memcpy(body + k, &amount, 8);
+    }
+    uint32_t left = 1000000;
+    for (size_t k = 0; kind >= 4 && kind <= 6 && k + 4 <= length; k += 4) {
+        uint32_t part;
+        memcpy(&part, body + k, 4);
+        part = kind == 5 ? part % 200001 : k + 8 > length ? left : part % (left + 1);
+        left -= kind == 5 ? 0 : part;
+        memcpy(body + k, &part, 4);
+    }
+}
+
+/* One input in four is changed anywhere. In the others one record's body is changed and keeps its length, and in two of these three
+ * the numbers are then put right; else nearly all would be refused before anything is reckoned. */
+size_t LLVMFuzzerCustomMutator(uint8_t *data, size_t size, size_t most, unsigned seed)
+{
+    static uint8_t copy[1 << 16];
+    size_t at, length, count = 0;
+    for (at = 0; record(data, size, at, &length); at += 4 + length)
+        count++;
+    if (seed % 4 == 0 || count == 0)
+        return LLVMFuzzerMutate(data, size, most);
+    size_t chosen = seed / 4 % count;
+    for (at = 0; record(data, size, at, &length); at += 4 + length) {
+        uint8_t *body = data + at + 4;
+        if (chosen-- == 0 && length > 0) {
+            memcpy(copy, body, length);
+            LLVMFuzzerMutate(copy, length, length);
+            memcpy(body, copy, length);
+        }
+        if (seed % 4 != 1)
+            put_right(data[at + 2], body, length);
+    }
+    return size;
+}
+
+#endif
