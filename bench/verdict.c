@@ -1,0 +1,253 @@
+/* The yearly reckoning of document 01 in plain C: the same checks in the same order, the same window of q terms, every flow of
+ * every pattern reckoned once. Nothing is copied that C need not copy; the plan is passed by pointer. */
+#include "verdict.h"
+
+#include <stdbool.h>
+#include <string.h>
+
+#define MILLION 1000000
+#define LIMIT INT64_C(1000000000000)
+#define MOST INT64_C(20000000000)
+
+struct plan {
+    size_t years, instruments, terms, patterns;
+    int64_t payments[16][30], outflows[30];
+    uint32_t rollover[30], rates[64][30], allocation[16];
+};
+
+struct row {
+    uint8_t word;
+    int64_t fund, bound, coefficients[16], constant;
+};
+
+/* ---- the plan file */
+
+static size_t u16_at(const uint8_t *p)
+{
+    return (size_t)(p[0] | p[1] << 8);
+}
+
+static uint32_t u32_at(const uint8_t *p)
+{
+    return p[0] | (uint32_t)p[1] << 8 | (uint32_t)p[2] << 16 | (uint32_t)p[3] << 24;
+}
+
+static int64_t i64_at(const uint8_t *p)
+{
+    return (int64_t)(u32_at(p) | (uint64_t)u32_at(p + 4) << 32);
+}
+
+static bool from(size_t low, size_t high, size_t x)
+{
+    return low <= x && x <= high;
+}
+
+/* The kind of record t. */
+static size_t kind_of(size_t n, size_t m, size_t t)
+{
+    return t == 0 ? 1 : t <= n ? 2 : t == n + 1 ? 3 : t == n + 2 ? 4 : t < n + m + 3 ? 5 : 6;
+}
+
+static void amounts(int64_t *out, const uint8_t *body, size_t n)
+{
+    for (size_t k = 0; k < n; k++)
+        out[k] = i64_at(body + 8 * k);
+}
+
+static void shares(uint32_t *out, const uint8_t *body, size_t n)
+{
+    for (size_t k = 0; k < n; k++)
+        out[k] = u32_at(body + 4 * k);
+}
+
+/* Checks 1 to 5, and the numbers. */
+static uint8_t read_plan(const uint8_t *file, size_t length, struct plan *plan)
+{
+    if (length > 16384)
+        return 1;
+    for (size_t at = 0; at < length; at += 4 + u16_at(file + at))
+        if (length - at < 4 || length - at - 4 < u16_at(file + at))
+            return 2;
+    if (length == 0 || u16_at(file + 2) != 1 || u16_at(file) != 4)
+        return 3;
+    size_t N = file[4], n = file[5], q = file[6], m = file[7];
+    if (!from(1, 30, N) || !from(1, 16, n) || !from(1, 30, q) || !from(1, 64, m))
+        return 3;
+    size_t count = n + m + 4, at = 0;
+    for (size_t t = 0; t < count; t++) {
+        if (at == length || u16_at(file + at + 2) != kind_of(n, m, t))
+            return 4;
+        at += 4 + u16_at(file + at);
+    }
+    if (at != length)
+        return 4;
+    const size_t sizes[] = {0, 4, 8 * N, 8 * N, 4 * q, 4 * (N - 1), 4 * n};
+    at = 0;
+    for (size_t t = 0; t < count; t++) {
+        if (u16_at(file + at) != sizes[u16_at(file + at + 2)])
+            return 5;
+        at += 4 + u16_at(file + at);
+    }
+    plan->years = N;
+    plan->instruments = n;
+    plan->terms = q;
+    plan->patterns = m;
+    const uint8_t *body = file + 12;
+    for (size_t j = 0; j < n; j++, body += 4 + 8 * N)
+        amounts(plan->payments[j], body, N);
+    amounts(plan->outflows, body, N);
+    body += 4 + 8 * N;
+    shares(plan->rollover, body, q);
+    body += 4 + 4 * q;
+    for (size_t t = 0; t < m; t++, body += 4 + 4 * (N - 1))
+        shares(plan->rates[t], body, N - 1);
+    shares(plan->allocation, body, n);
+    return 0;
+}
+
+static bool within(const int64_t *xs, size_t n, int64_t low, int64_t high)
+{
+    for (size_t k = 0; k < n; k++)
+        if (xs[k] < low || xs[k] > high)
+            return false;
+    return true;
+}
+
+static uint64_t sum(const uint32_t *xs, size_t n)
+{
+    uint64_t s = 0;
+    for (size_t k = 0; k < n; k++)
+        s += xs[k];
+    return s;
+}
+
+/* Checks 6 to 9. */
+static uint8_t check_plan(const struct plan *plan)
+{
+    for (size_t j = 0; j < plan->instruments; j++)
+        if (!within(plan->payments[j], plan->years, 0, MOST))
+            return 6;
+    if (!within(plan->outflows, plan->years, -MOST, MOST))
+        return 6;
+    if (sum(plan->rollover, plan->terms) != MILLION)
+        return 7;
+    for (size_t t = 0; t < plan->patterns; t++)
+        for (size_t k = 0; k + 1 < plan->years; k++)
+            if (plan->rates[t][k] > 200000)
+                return 8;
+    return sum(plan->allocation, plan->instruments) != MILLION ? 9 : 0;
+}
+
+/* ---- the reckoning */
+
+static int64_t down(int64_t z)
+{
+    int64_t q = z / MILLION;
+    return q - (q * MILLION > z);
+}
+
+static int64_t share(int64_t x, int64_t f)
+{
+    return down(x * f);
+}
+
+/* The fund of a flow over n years; check 11. */
+static uint8_t fund(const int64_t *flow, const int64_t *r, const int64_t *w, const int64_t *i, size_t n, size_t q, int64_t *out)
+{
+    int64_t cells[30];
+    for (size_t j = 0; j < n; j++) {
+        int64_t s = flow[j];
+        for (size_t l = j < q ? 0 : j - q; l < j; l++) {
+            size_t d = j - l - 1;
+            s += share(cells[l], r[d]) + share(share(cells[l], w[d]), i[l]);
+        }
+        if (s > LIMIT || s < -LIMIT)
+            return 11;
+        cells[j] = s;
+    }
+    int64_t s = 0;
+    for (size_t k = n < q ? 0 : n - q; k < n; k++)
+        s += share(cells[k], w[n - k - 1]);
+    if (s > LIMIT || s < -LIMIT)
+        return 11;
+    *out = s;
+    return 0;
+}
+
+static int64_t bound(const int64_t *i, size_t n)
+{
+    int64_t h = 0, g = 1;
+    for (size_t l = 0; l + 1 < n; l++)
+        if (i[l] > h)
+            h = i[l];
+    for (size_t k = 3; k < n + 2; k++)
+        g += down(g * h + 999999) + (int64_t)(3 * k - 5);
+    return g + (int64_t)n;
+}
+
+/* What one pattern comes to. */
+static uint8_t reckon(const struct plan *plan, const int64_t *flow, const int64_t *outflow, const int64_t *r, const int64_t *w,
+                      const uint32_t *rates, struct row *row)
+{
+    size_t N = plan->years, n = plan->instruments, q = plan->terms;
+    int64_t i[30] = {0};
+    for (size_t k = 0; k + 1 < N; k++)
+        i[k] = rates[k];
+    if (fund(flow, r, w, i, N, q, &row->fund))
+        return 11;
+    for (size_t j = 0; j < n; j++)
+        if (fund(plan->payments[j], r, w, i, N, q, &row->coefficients[j]))
+            return 11;
+    if (fund(outflow, r, w, i, N, q, &row->constant))
+        return 11;
+    row->bound = bound(i, N);
+    row->word = row->fund >= 0 ? 1 : row->fund + row->bound <= 0 ? 2 : 3;
+    return 0;
+}
+
+static uint8_t refused(uint8_t number, uint8_t *words, uint64_t *shorts, uint8_t *word)
+{
+    memset(words, 0, 64);
+    *shorts = 0;
+    *word = 0;
+    return number;
+}
+
+uint8_t c_verdict(const uint8_t *file, size_t length, uint8_t words[static 64], uint64_t *shorts, uint8_t *word)
+{
+    struct plan plan;
+    struct row rows[64];
+    uint8_t no = read_plan(file, length, &plan);
+    if (!no)
+        no = check_plan(&plan);
+    if (no)
+        return refused(no, words, shorts, word);
+    size_t N = plan.years, n = plan.instruments, q = plan.terms, m = plan.patterns;
+    int64_t r[30] = {0}, w[30] = {0}, flow[30], outflow[30], left = MILLION;
+    for (size_t d = 0; d < q; d++) {
+        r[d] = plan.rollover[d];
+        w[d] = left;
+        left -= r[d];
+    }
+    for (size_t k = 0; k < N; k++) {
+        int64_t s = 0;
+        for (size_t j = 0; j < n; j++)
+            s += plan.payments[j][k] * (int64_t)plan.allocation[j];
+        flow[k] = down(s) - plan.outflows[k];
+        outflow[k] = -plan.outflows[k];
+    }
+    for (size_t t = 0; t < m; t++)
+        if (reckon(&plan, flow, outflow, r, w, plan.rates[t], &rows[t]))
+            return refused(11, words, shorts, word);
+    bool solvent = true;
+    memset(words, 0, 64);
+    *shorts = 0;
+    for (size_t t = 0; t < m; t++) {
+        words[t] = rows[t].word;
+        if (words[t] == 2)
+            *shorts |= UINT64_C(1) << t;
+        solvent = solvent && words[t] == 1;
+    }
+    *word = *shorts ? 2 : solvent ? 1 : 3;
+    return 0;
+}
