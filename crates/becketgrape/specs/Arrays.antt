@@ -35,14 +35,14 @@ unfoldable pub flatGammas : List Row → List ℤ
 flatGammas rows = flat 900 (gammaIn rows) (pos 0)
 
 -- row j of such an array
-abbrev pub rowOf : {A : Type 0} → A → List A → (j : ℕ) → List A
-rowOf d xs j = table 30 30 (λ k. getD xs (30 * j + k) d) d
+abbrev pub rowAt : {A : Type 0} → A → List A → (j : ℕ) → List A
+rowAt d xs j = table 30 30 (λ k. getD xs (30 * j + k) d) d
 
 abbrev pub instrumentOf : List ℤ → (j : ℕ) → Instrument
-instrumentOf xs j = record { payments = rowOf (pos 0) xs j }
+instrumentOf xs j = record { payments = rowAt (pos 0) xs j }
 
 abbrev pub patternOf : List ℕ → (t : ℕ) → Pattern
-patternOf xs t = record { rates = rowOf 0 xs t }
+patternOf xs t = record { rates = rowAt 0 xs t }
 
 -- all of its rows
 unfoldable pub instrumentsOf : List ℤ → List Instrument

@@ -69,7 +69,7 @@ module _ (P : Numbers) where
     row-of h = ap (λ (c : OneRow). c .row) (picked-is (λ (c : OneRow). c .refusal) _ _ refl (λ z. omega arith) (rowFits P (1 + t)) c e h)
 
     pub rows-turn : {words : List ℕ} {rows : List PatternRow} → P .patterns ≤ 64 → Rowed P words rows t → c .refusal ≡ 0 → Rowed P (set words t (c .row .word)) (set rows t (c .row)) (t + 1)
-    unfolding rowAnswer rowFits coefficientsFit constantFits rowOf
+    unfolding rowAnswer rowFits coefficientsFit constantFits rowOf patternWord
     rows-turn few a h = record {
       worded = fill-turn few l (a .worded) (ap (λ (row : PatternRow). row .word) (row-of h));
       filled = fill-turn few l (a .filled) (row-of h);

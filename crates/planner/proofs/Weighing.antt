@@ -19,7 +19,7 @@ pub record Parts (n : ℕ) (x : ℕ → ℤ) (p : ℕ → ℕ) : Type 0 where
   pub number : (j : ℕ) → j < n → Within limit (x j)
   pub parts : sumℕ n p ≤ million
 
-pub weighable-parts : {n : ℕ} {k : List ℤ} {p : List ℕ} → Weighable n k p → Parts n (λ j. getD k j (pos 0)) (λ j. getD p j 0)
+pub weighable-parts : {n : ℕ} {x : List ℤ} {p : List ℕ} → Weighable n x p → Parts n (λ j. getD x j (pos 0)) (λ j. getD p j 0)
 weighable-parts w = record { number = w .amount; parts = w .parts }
 
 -- s is the sum of the first j
@@ -50,5 +50,5 @@ module _ {n : ℕ} {x : ℕ → ℤ} {p : ℕ → ℕ} (w : Parts n x p) where
       sum-fits = rw (weigh-turn .is) (within-fits (omega arith) (sum-within (j + 1) (omega arith)))
 
 -- the sum of all
-pub weighted-within : {n : ℕ} {k : List ℤ} {p : List ℕ} {z : ℤ} → Weighable n k p → z ≡ sum n (λ j. getD k j (pos 0) *ℤ pos (getD p j 0)) → Within (limit * million) z
+pub weighted-within : {n : ℕ} {x : List ℤ} {p : List ℕ} {z : ℤ} → Weighable n x p → z ≡ sum n (λ j. getD x j (pos 0) *ℤ pos (getD p j 0)) → Within (limit * million) z
 weighted-within {n} w e = rw e (sum-within (weighable-parts w) n (omega arith))

@@ -1,4 +1,5 @@
--- What the code prepares of a plan for the core: arrays that hold the plan's numbers P, with zeros past N, n and q.
+-- What the code prepares of a plan for the core: arrays that hold the plan's numbers P, with zeros past N, n and q; and what the code
+-- reckons of such arrays.
 use mathlib.Core.List.{List, []}
 use Prim.Native.Nat.{ℕ, _+_, _-_, _≤_, _<_}
 use lib.ListN.{getD, replicate}
@@ -15,18 +16,22 @@ use Rattle.planner.specs.declared.Coefficients.{Coefficients}
 use Rattle.planner.specs.Calls.{flowOf}
 
 module _ (P : Numbers) where
+  -- r_1 to r_q
   unfoldable pub rolloverArray : List ℤ
   rolloverArray = table 30 (P .terms) (λ d. pos (P .r (1 + d))) (pos 0)
 
+  -- i_2 to i_N of pattern t
   unfoldable pub ratesArray : (t : ℕ) → List ℤ
   ratesArray t = table 30 (P .years - 1) (λ l. P .i t (2 + l)) (pos 0)
 
+  -- the allocation's flow, and -o, in years 1 to N
   unfoldable pub flowArray : List ℤ
   flowArray = table 30 (P .years) (λ k. flowOf P (1 + k)) (pos 0)
 
   unfoldable pub outflowArray : List ℤ
   outflowArray = table 30 (P .years) (λ k. negℤ (P .o (1 + k))) (pos 0)
 
+  -- the payments of instrument 1 + j in years 1 to N, and those of every instrument
   unfoldable pub paymentsRow : (j : ℕ) → List ℤ
   paymentsRow j = table 30 (P .years) (λ k. P .a (1 + k) (1 + j)) (pos 0)
 
@@ -69,7 +74,7 @@ fundsReckoned r i N n a = pick (all n (λ j. fundFits r i (a j) N))
     (record { refusal = 11; values = replicate 16 (pos 0) })
 
 -- n amounts within the limit, and parts of at most 1,000,000 together
-pub record Weighable (n : ℕ) (k : List ℤ) (p : List ℕ) : Type 0 where
+pub record Weighable (n : ℕ) (x : List ℤ) (p : List ℕ) : Type 0 where
   pub few : n ≤ 16
-  pub amount : (j : ℕ) → j < n → Within limit (getD k j (pos 0))
+  pub amount : (j : ℕ) → j < n → Within limit (getD x j (pos 0))
   pub parts : sumℕ n (λ j. getD p j 0) ≤ million

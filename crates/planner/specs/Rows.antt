@@ -15,7 +15,7 @@ use Rattle.planner.specs.declared.PatternRows.{PatternRows}
 use Rattle.planner.specs.declared.OneRow.{OneRow}
 use Rattle.planner.specs.declared.VerdictAnswer.{VerdictAnswer}
 use Rattle.planner.specs.declared.Judgement.{Judgement}
-use Rattle.planner.specs.Verdict.{short, wordOf, bitsOf, planWordOf, noVerdict, noPattern, rowFits, patternWord, rowOf}
+use Rattle.planner.specs.Verdict.{short, rowWith, bitsOf, planWordOf, noVerdict, noPattern, rowFits, patternWord, rowOf}
 
 -- what a refusal holds
 abbrev pub refusedRow : OneRow
@@ -28,16 +28,7 @@ noJudgement number = record { verdict = noVerdict number; rows = replicate 64 no
 -- refuses one
 unfoldable pub rowAnswer : (r : ℕ → ℕ) (i : ℕ → ℤ) (N n : ℕ) (f o : ℕ → ℤ) (a : ℕ → ℕ → ℤ) → OneRow
 rowAnswer r i N n f o a = pick (both (fundFits r i f N) (both (all n (λ j. fundFits r i (a j) N)) (fundFits r i o N)))
-    (record {
-      refusal = 0;
-      row = record {
-        word = wordOf (fund r i N f) (pos (B (h i N) N));
-        fund = fund r i N f;
-        bound = pos (B (h i N) N);
-        coefficients = table 16 n (λ j. fund r i N (a j)) (pos 0);
-        constant = fund r i N o;
-      };
-    })
+    (record { refusal = 0; row = rowWith (fund r i N f) (pos (B (h i N) N)) (table 16 n (λ j. fund r i N (a j)) (pos 0)) (fund r i N o) })
     refusedRow
 
 -- the word and the row of every pattern, unless check 11 refuses one

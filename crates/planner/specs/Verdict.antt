@@ -49,6 +49,10 @@ noVerdict number = record { refusal = number; words = replicate 64 0; short = 0;
 abbrev pub noPattern : PatternRow
 noPattern = record { word = 0; fund = pos 0; bound = pos 0; coefficients = replicate 16 (pos 0); constant = pos 0 }
 
+-- the row of a pattern whose fund is z, with the bound b, K_1 to K_n and Q
+abbrev pub rowWith : (z b : ℤ) (coefficients : List ℤ) (constant : ℤ) → PatternRow
+rowWith z b coefficients constant = record { word = wordOf z b; fund = z; bound = b; coefficients = coefficients; constant = constant }
+
 module _ (P : Numbers) where
   -- check 11 for all that pattern t reckons: the allocation's flow, every instrument and -o
   unfoldable pub rowFits : (t : ℕ) → Bool
@@ -62,13 +66,10 @@ module _ (P : Numbers) where
   patternWord t = wordOf (fundOf t) (pos (boundOf P t))
 
   unfoldable pub rowOf : (t : ℕ) → PatternRow
-  rowOf t = record {
-    word = patternWord t;
-    fund = fundOf t;
-    bound = pos (boundOf P t);
-    coefficients = table 16 (P .instruments) (λ j. K (P .a) (P .o) (P .r) (P .i t) (P .years) (1 + j)) (pos 0);
-    constant = Q (P .a) (P .o) (P .r) (P .i t) (P .years);
-  }
+  rowOf t =
+      rowWith (fundOf t) (pos (boundOf P t))
+      (table 16 (P .instruments) (λ j. K (P .a) (P .o) (P .r) (P .i t) (P .years) (1 + j)) (pos 0))
+      (Q (P .a) (P .o) (P .r) (P .i t) (P .years))
 
   -- the verdict's checks: 3 and 6 to 9, then 11 in every pattern
   unfoldable pub verdictRefusal : ℕ

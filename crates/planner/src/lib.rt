@@ -132,14 +132,14 @@ fn column(payments: &[[i64; 30]; 16], n: usize, k: usize) -> [i64; 16]
 }
 
 // The sum of n amounts, each times its part.
-fn weighted(k: [i64; 16], p: [u32; 16], n: usize) -> i64
-    requires { ⌜ Weighable n k p ⌝ }
-    ensures { λ s. ⌜ s ≡ sum n (λ j. getD k j (pos 0) *ℤ pos (getD p j 0)) ⌝ }
+fn weighted(x: [i64; 16], p: [u32; 16], n: usize) -> i64
+    requires { ⌜ Weighable n x p ⌝ }
+    ensures { λ s. ⌜ s ≡ sum n (λ j. getD x j (pos 0) *ℤ pos (getD p j 0)) ⌝ }
 {
     let mut s: i64 = 0;
     for j in 0..n {
         let f = wide(p[j]);
-        s += k[j] * f;
+        s += x[j] * f;
     }
     s
 }

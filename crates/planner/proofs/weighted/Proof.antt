@@ -13,10 +13,10 @@ use Rattle.planner.proofs.weighted.Statement.{statement}
 use Rattle.planner.proofs.weighted.Tie as tie
 
 abbrev Inv-loop : tie.InvT-loop
-Inv-loop n k p s₀ j₀ s j = Weighing n (λ j. getD k j (pos 0)) (λ j. getD p j 0) (toZ w64 s) j
+Inv-loop n x p s₀ j₀ s j = Weighing n (λ j. getD x j (pos 0)) (λ j. getD p j 0) (toZ w64 s) j
 
 abbrev μ-loop : tie.MeasureT-loop
-μ-loop n k p s₀ j₀ s j = n - j
+μ-loop n x p s₀ j₀ s j = n - j
 
 loop-holds : tie.Need-loop-holds Inv-loop μ-loop
 loop-holds c = weigh-start _ _ _
@@ -50,8 +50,8 @@ module _ (c : tie.After-s Inv-loop μ-loop) where
   p-fits : SFits w64 (c .before .wide .result)
   p-fits = ok64 (c .before .wide .result) (c .before .wide .ok)
 
-  k-fits : SFits w64 (getD (start .args .t1) j (pos 0))
-  k-fits = within-fits (omega arith) (start .pre .amount j (c .before .before .loop-test .taken))
+  x-fits : SFits w64 (getD (start .args .t1) j (pos 0))
+  x-fits = within-fits (omega arith) (start .pre .amount j (c .before .before .loop-test .taken))
 
   z-fits : SFits w64 (getD (start .args .t1) j (pos 0) *ℤ c .before .wide .result)
   z-fits = product-fits (weighable-parts (start .pre)) (c .before .before .loop-test .taken) refl (c .before .wide .ensures)
@@ -60,10 +60,10 @@ module _ (c : tie.After-s Inv-loop μ-loop) where
   s-fits = sum-fits (weighable-parts (start .pre)) (c .before .before .loop-test .taken) refl (c .before .wide .ensures) (c .before .before .before .loop .inv)
 
 mul-s-2 : tie.Need-mul-s-2 Inv-loop μ-loop
-mul-s-2 c = simp (back, p-fits c, k-fits c) (z-fits c)
+mul-s-2 c = simp (back, p-fits c, x-fits c) (z-fits c)
 
 add-s : tie.Need-add-s Inv-loop μ-loop
-add-s c = simp (back, p-fits c, k-fits c, z-fits c) (s-fits c)
+add-s c = simp (back, p-fits c, x-fits c, z-fits c) (s-fits c)
 
 add-j : tie.Need-add-j Inv-loop μ-loop
 add-j c = omega arith
@@ -73,7 +73,7 @@ loop-less c = omega arith
 
 loop-again : tie.Need-loop-again Inv-loop μ-loop
 loop-again c =
-    simp (back, p-fits c, k-fits c, z-fits c, s-fits c)
+    simp (back, p-fits c, x-fits c, z-fits c, s-fits c)
     (weigh-turn (weighable-parts (start c .pre)) (c .before .before .loop-test .taken) refl (c .before .wide .ensures) (c .before .before .before .loop .inv))
 
 returns : tie.Need-returns Inv-loop μ-loop
