@@ -210,23 +210,16 @@ static void call_again(const uint8_t *bytes)
     end();
 }
 
-static void call_fund(const uint8_t *bytes)
-{
-    begin("fund");
-    const uint8_t *file = source(bytes, request.file_length);
-    int64_t *fund = target(sizeof *fund);
-    put(planner_fund(file, request.file_length, request.pattern, fund));
-    put_signed(fund, 1);
-    end();
-}
+/* The calls that answer one amount: the fund and the bound. */
+typedef uint8_t amount_call(const uint8_t *file, size_t file_length, size_t pattern, int64_t *amount);
 
-static void call_bound(const uint8_t *bytes)
+static void call_amount(const char *name, amount_call *call, const uint8_t *bytes)
 {
-    begin("bound");
+    begin(name);
     const uint8_t *file = source(bytes, request.file_length);
-    int64_t *bound = target(sizeof *bound);
-    put(planner_bound(file, request.file_length, request.pattern, bound));
-    put_signed(bound, 1);
+    int64_t *amount = target(sizeof *amount);
+    put(call(file, request.file_length, request.pattern, amount));
+    put_signed(amount, 1);
     end();
 }
 
@@ -283,8 +276,8 @@ int main(void)
         call_read(bytes);
         call_write();
         call_again(bytes);
-        call_fund(bytes);
-        call_bound(bytes);
+        call_amount("fund", planner_fund, bytes);
+        call_amount("bound", planner_bound, bytes);
         call_form(bytes);
         call_gammas(bytes);
         call_verdict(bytes);
