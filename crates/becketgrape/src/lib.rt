@@ -10,12 +10,15 @@ use reckoning::Reckoned;
 use reckoning::Row;
 ghost use mathlib.Core.Path.{_≡_};
 ghost use Prim.Native.Nat.{_<_};
+ghost use lib.ListN.{take};
 ghost use Rattle.io.specs.Counts.{Counts};
 ghost use Rattle.listing.specs.Text.{textOf};
 ghost use Rattle.listing.specs.Putting.{Listed};
+ghost use Rattle.listing.specs.Demands.{Demands};
 ghost use Rattle.planfile.specs.Read.{readAnswer};
 ghost use Rattle.planfile.specs.Numbers.{numbersIn};
 ghost use Rattle.planfile.specs.Write.{writeAnswer, bufferAfter};
+ghost use Rattle.planfile.specs.Demand2.{OneFile};
 ghost use Rattle.planner.specs.Demand3.{FundNear, FormNear, VerdictTrue};
 ghost use Rattle.becketgrape.specs.Calls.{fundOfFile, boundOfFile, formOfFile, gammasOfFile, verdictOfFile};
 ghost use Rattle.becketgrape.specs.Arrays.{flatPayments, flatRates, flatGammas, instrumentOf, patternOf, instrumentsOf, patternsOf, planOfArrays};
@@ -23,8 +26,9 @@ ghost use Rattle.becketgrape.specs.Arrays.{flatPayments, flatRates, flat
 // The listing of a file, in the first bytes of `out`: how many they are.
 #[no_mangle]
 pub extern "C" fn planner_list(file: &[u8], out: &mut [u8; 32768]) -> usize
-    ensures { λ r. ⌜ Listed (textOf (now (file .entry))) (now (out .entry)) (now (out .exit)) r ⌝ }
-    ensures { λ r. ⌜ Counts r (now (out .exit)) ⌝ }
+    ensures is { λ r. ⌜ Listed (textOf (now (file .entry))) (now (out .entry)) (now (out .exit)) r ⌝ }
+    ensures counts { λ r. ⌜ Counts r (now (out .exit)) ⌝ }
+    ensures demands { λ _. ⌜ Demands (now (file .entry)) ⌝ }
 {
     listing::list(file, out)
 }
@@ -151,6 +155,9 @@ pub extern "C" fn planner_read(
     ensures { λ _. ⌜ now (rollover .exit) ≡ readAnswer (now (file .entry)) .plan .rollover ⌝ }
     ensures { λ _. ⌜ now (rates .exit) ≡ flatRates (readAnswer (now (file .entry)) .plan .pattern) ⌝ }
     ensures { λ _. ⌜ now (allocation .exit) ≡ readAnswer (now (file .entry)) .plan .allocation ⌝ }
+    ensures kept { λ r. ⌜ (r ≡ 0 → OneFile (now (file .entry))
+        (planOfArrays (now (years .exit)) (now (instruments .exit)) (now (terms .exit)) (now (patterns .exit)) (now (payments .exit))
+        (now (outflows .exit)) (now (rollover .exit)) (now (rates .exit)) (now (allocation .exit)))) ⌝ }
 {
     let found = planfile::read(file);
     let plan = found.plan;
@@ -196,6 +203,9 @@ pub extern "C" fn planner_write(
     ensures { λ _. ⌜ now (buffer .exit)
         ≡ bufferAfter (planOfArrays years instruments terms patterns (now (payments .entry)) (now (outflows .entry))
         (now (rollover .entry)) (now (rates .entry)) (now (allocation .entry))) (now (buffer .entry)) ⌝ }
+    ensures kept { λ r. ⌜ (r ≡ 0 → OneFile (take (now (length .exit)) (now (buffer .exit)))
+        (planOfArrays years instruments terms patterns (now (payments .entry)) (now (outflows .entry))
+        (now (rollover .entry)) (now (rates .entry)) (now (allocation .entry)))) ⌝ }
 {
     let instrument = instruments_of(payments);
     let pattern = patterns_of(rates);

@@ -10,6 +10,7 @@ ghost use lib.ListN.{length};
 ghost use Rattle.io.specs.Counts.{Counts};
 ghost use Rattle.listing.specs.Text.{digitsIn, signedText, wordText, field, fields, amountsText, lineText, linesText, lowestShort, lastText, refusedText, judgementText, textOf};
 ghost use Rattle.listing.specs.Putting.{Wrote, Listed};
+ghost use Rattle.listing.specs.Demands.{Demands};
 
 // ---- bytes and numbers
 
@@ -210,6 +211,7 @@ fn put_judgement(b: &mut [u8], m: usize, n: usize, s: Judgement) -> usize
 pub fn list(file: &[u8], out: &mut [u8; 32768]) -> usize
     ensures is { λ r. ⌜ Listed (textOf (now (file .entry))) (now (out .entry)) (now (out .exit)) r ⌝ }
     ensures counts { λ r. ⌜ Counts r (now (out .exit)) ⌝ }
+    ensures demands { λ _. ⌜ Demands (now (file .entry)) ⌝ }
 {
     let found = planfile::read(file);
     let no = found.refusal;

@@ -10,6 +10,8 @@ use lib.Dec.{lit<}
 use lib.ListN.{length, getD, take, drop, set, length-take, List·getD-append, List·getD-eq-default}
 use lib.Seq.{take-nil, take-all, take-at, length-take-le, drop-cons, drop-drop, drop-at, drop-append-seam}
 use lib.Seq.{getD-take, getD-drop, getD-append-add, getD-set-other, sets, sets-eq, length-sets}
+use mir.Syntax.{w8}
+use mir.Val.{Fits}
 use Rattle.whole.proofs.Laws.{ℕ-cases}
 use Rattle.little_endian.specs.LittleEndian.{Bytes, leOf, leAt, bytesOf, stored}
 
@@ -28,6 +30,10 @@ getD-sets (v ∷ vs) b at k h =
     ∙ getD-set-other b at k v 0 (λ e. ⊎-elim (λ (l : k < at). omega arith) (λ (l : at + suc (length vs) ≤ k). omega arith) h)
 
 -- ---- lists of bytes
+-- what is lent as bytes
+pub bytes-lent : {s : List ℕ} → ((k : ℕ) → Fits w8 (getD s k 0)) → Bytes s
+bytes-lent fit = record { below = λ k. fit k .fits }
+
 pub bytes-drop : (n : ℕ) {s : List ℕ} → Bytes s → Bytes (drop n s)
 bytes-drop n {s} b = record { below = λ k. rw getD-drop (b .below (n + k)) }
 

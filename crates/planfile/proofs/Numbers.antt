@@ -116,11 +116,11 @@ module _ (s : List ℕ) (e : readRefusal s ≡ 0) where
 
 -- ---- what is answered
 module _ (s : List ℕ) (e : readAnswer s .refusal ≡ 0) where
-  taken-too : readRefusal s ≡ 0
+  pub taken-too : readRefusal s ≡ 0
   unfolding readAnswer
   taken-too = not-refused _ _ (λ (a : ReadAnswer). a .refusal) (λ n. refl) _ e
 
-  plan-read : readAnswer s .plan ≡ planOf s
+  pub plan-read : readAnswer s .plan ≡ planOf s
   unfolding readAnswer
   plan-read = ap (λ (a : ReadAnswer). a .plan) (answer-accepted _ (readRefusal s) _ taken-too)
 

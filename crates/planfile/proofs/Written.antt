@@ -7,8 +7,8 @@ use native.Mathlib.Nat.{zero-add}
 use native.Mathlib.Omega.{arith}
 use borrow.Author.Tests.{leb-true, le-leb, eq-eqb}
 use lib.Dec.{leb}
-use lib.ListN.{length, getD, take, drop}
-use lib.Seq.{take-append-seam, sets-eq}
+use lib.ListN.{length, getD, drop}
+use lib.Seq.{sets-eq}
 use lib.IntN.{ℤ, natAbs}
 use mir.Syntax.{w64}
 use mir.Val.{SFits}
@@ -32,7 +32,7 @@ use Rattle.plan.proofs.Numbers.{payment-is, outflow-is, rollover-is, rate-is, a
 use Rattle.planfile.specs.declared.Head.{Head}
 use Rattle.planfile.specs.Format.{kindsOf, sizeOf, numberAt, headOf, recordsOf}
 use Rattle.planfile.specs.Read.{headAt, firstOk, kindOk, kindsOk, sizeOk, sizesOk, planWith, planOf, layoutRefusal, readRefusal, readAnswer}
-use Rattle.planfile.specs.Write.{fileOf, writeRefusal, writeAnswer, bufferAfter}
+use Rattle.planfile.specs.Write.{fileOf, writeRefusal, bufferAfter}
 use Rattle.planfile.specs.Cleared.{cleared}
 use Rattle.planfile.proofs.Runs.{run-at}
 use Rattle.planfile.proofs.Places.{kinds, records, none, small, length-records, kind-is, size-is, longest}
@@ -187,9 +187,9 @@ module _ (plan : Plan) (e : refusalOf (numbers plan) ≡ 0) where
 
 -- ---- the buffer after a call that is not refused
 module _ (plan : Plan) (buffer : List ℕ) (e : writeRefusal plan buffer ≡ 0) where
-  not-refused : refusalOf (numbers plan) ≡ 0
+  pub plan-taken : refusalOf (numbers plan) ≡ 0
   unfolding writeRefusal
-  not-refused = first-none (refusalOf (numbers plan)) _ e
+  plan-taken = first-none (refusalOf (numbers plan)) _ e
 
   room : length (fileOf plan) ≤ length buffer
   unfolding writeRefusal
@@ -199,8 +199,3 @@ module _ (plan : Plan) (buffer : List ℕ) (e : writeRefusal plan buffer ≡ 0) 
   pub buffer-written : bufferAfter plan buffer ≡ fileOf plan ++ drop (length (fileOf plan)) buffer
   unfolding bufferAfter
   buffer-written = answer-accepted _ _ _ e ∙ rw (sets-eq (fileOf plan) buffer 0 (omega (arith, room)), zero-add)
-
-  -- its first bytes are read as the plan
-  pub buffer-read : readAnswer (take (writeAnswer plan buffer .length) (bufferAfter plan buffer)) ≡ record { refusal = 0; plan = cleared plan }
-  unfolding writeAnswer
-  buffer-read = rw (answer-accepted _ _ _ e, buffer-written, take-append-seam) (answer-written plan not-refused)

@@ -7,7 +7,7 @@ ghost use mathlib.Core.Path.{_≡_};
 ghost use mathlib.Core.Bool.{true};
 ghost use mathlib.Core.List.{_++_};
 ghost use Prim.Native.Nat.{_+_, _*_, _≤_, _<_};
-ghost use lib.ListN.{length, getD};
+ghost use lib.ListN.{length, getD, take};
 ghost use lib.Seq.{sets};
 ghost use Rattle.little_endian.specs.LittleEndian.{bytesOf};
 ghost use Rattle.records.specs.Record.{recordBytes};
@@ -18,6 +18,7 @@ ghost use Rattle.planfile.specs.Format.{kindsOf, sizeOf, rec};
 ghost use Rattle.planfile.specs.Read.{amountsIn, sharesIn, noPlan, rangesOk, headAt, firstOk, kindsOk, sizesOk, planWith, layoutRefusal, readAnswer};
 ghost use Rattle.planfile.specs.Reading.{Inside, partOf, InRange, Laid};
 ghost use Rattle.planfile.specs.Write.{fileOf, writeAnswer, bufferAfter};
+ghost use Rattle.planfile.specs.Demand2.{OneFile};
 ghost use Rattle.planfile.specs.Parts.{amountsBytes, sharesBytes, headBytes, paymentsBytes, outflowsBytes, rolloverBytes, ratesBytes, allocationBytes, Room, Wrote};
 
 // N, n, q and m, as the first record has them.
@@ -410,7 +411,8 @@ fn refused(number: u8) -> ReadAnswer
 
 // The plan that a file holds, or the number of the first check that the file fails.
 pub fn read(file: &[u8]) -> ReadAnswer
-    ensures { λ r. ⌜ r ≡ readAnswer (now (file .entry)) ⌝ }
+    ensures is { λ r. ⌜ r ≡ readAnswer (now (file .entry)) ⌝ }
+    ensures kept { λ r. ⌜ (r .refusal ≡ 0 → OneFile (now (file .entry)) (r .plan)) ⌝ }
 {
     let layout = layout_refusal(file);
     if layout != 0 {
@@ -603,8 +605,9 @@ fn put_file(b: &mut [u8], plan: Plan)
 
 // The plan's file in the first bytes of the buffer, or the number of the first of the checks 3, 6 to 9 and 12 that fails.
 pub fn write(plan: Plan, buffer: &mut [u8]) -> WriteAnswer
-    ensures { λ r. ⌜ r ≡ writeAnswer plan (now (buffer .entry)) ⌝ }
-    ensures { λ r. ⌜ now (buffer .exit) ≡ bufferAfter plan (now (buffer .entry)) ⌝ }
+    ensures is { λ r. ⌜ r ≡ writeAnswer plan (now (buffer .entry)) ⌝ }
+    ensures left { λ r. ⌜ now (buffer .exit) ≡ bufferAfter plan (now (buffer .entry)) ⌝ }
+    ensures kept { λ r. ⌜ (r .refusal ≡ 0 → OneFile (take (r .length) (now (buffer .exit))) plan) ⌝ }
 {
     let refusal = plan::refusal(plan);
     if refusal != 0 {

@@ -11,14 +11,14 @@ read-requires c κs = search needs
 
 returns : tie.Need-returns
 unfolding gammasOfFile
-returns c = file-refused _ noGammas (λ P. gammasAnswer P (c .before .before .before .args .t)) (c .before .read .ensures) (c .if1 .taken)
+returns c = file-refused _ noGammas (λ P. gammasAnswer P (c .before .before .before .args .t)) (c .before .read .ensures .0) (c .if1 .taken)
 
 gammas-requires : tie.Need-gammas-requires
 gammas-requires c κs = search needs
 
 returns-2 : tie.Need-returns-2
 unfolding gammasOfFile
-returns-2 c = let s = c .before .before in file-called _ noGammas (λ P. gammasAnswer P (s .before .before .before .args .t)) (s .before .read .ensures) (s .if1 .left) (c .gammas .ensures)
+returns-2 c = let s = c .before .before in file-called _ noGammas (λ P. gammasAnswer P (s .before .before .before .args .t)) (s .before .read .ensures .0) (s .if1 .left) (c .gammas .ensures)
 
 pub gammas-of-file-spec : {M : Type 1} → statement M
 gammas-of-file-spec = tie.close (tie.spec read-requires returns gammas-requires returns-2)

@@ -11,14 +11,14 @@ read-requires c κs = search needs
 
 returns : tie.Need-returns
 unfolding verdictOfFile
-returns c = file-refused _ noVerdict verdictAnswer (c .before .read .ensures) (c .if1 .taken)
+returns c = file-refused _ noVerdict verdictAnswer (c .before .read .ensures .0) (c .if1 .taken)
 
 verdict-requires : tie.Need-verdict-requires
 verdict-requires c κs = search needs
 
 returns-2 : tie.Need-returns-2
 unfolding verdictOfFile
-returns-2 c = let s = c .before .before in file-called _ noVerdict verdictAnswer (s .before .read .ensures) (s .if1 .left) (c .verdict .ensures .0)
+returns-2 c = let s = c .before .before in file-called _ noVerdict verdictAnswer (s .before .read .ensures .0) (s .if1 .left) (c .verdict .ensures .0)
 
 pub verdict-of-file-spec : {M : Type 1} → statement M
 verdict-of-file-spec = tie.close (tie.spec read-requires returns verdict-requires returns-2)

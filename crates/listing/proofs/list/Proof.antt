@@ -1,8 +1,10 @@
 -- `listing::list` puts down a refusal's line, or the text of the judgement on the plan that was read.
 use native.Mathlib.Omega.{arith}
 use borrow.Author.Needs.{needs}
+use Rattle.little_endian.proofs.LittleEndian.{bytes-lent}
 use Rattle.listing.proofs.File.{text-refused, text-judged, head-read}
 use Rattle.listing.proofs.Wrote.{wrote-as, listed}
+use Rattle.listing.proofs.Demands.{demands}
 use Rattle.listing.proofs.list.Statement.{statement}
 use Rattle.listing.proofs.list.Tie as tie
 
@@ -13,7 +15,11 @@ put-refused-requires : tie.Need-put-refused-requires
 put-refused-requires c κs = search needs
 
 returns : tie.Need-returns
-returns c = listed (omega arith) (search needs) (wrote-as (text-refused _ (c .before .before .before .read .ensures) (c .before .before .if1 .taken)) (c .put-refused .ensures))
+returns c =
+    let i = c .before .before in
+    let r = i .before in
+    let l = listed (omega arith) (search needs) (wrote-as (text-refused _ (r .read .ensures .0) (i .if1 .taken)) (c .put-refused .ensures)) in
+    (l .0, (l .1, demands (bytes-lent (r .before .shared-slice-known .given))))
 
 judge-requires : tie.Need-judge-requires
 judge-requires c κs = search needs
@@ -21,13 +27,15 @@ judge-requires c κs = search needs
 put-judgement-requires : tie.Need-put-judgement-requires
 put-judgement-requires c κs =
     let s = c .before .before .before in
-    let h = head-read _ (s .before .read .ensures) (s .if1 .left) in
+    let h = head-read _ (s .before .read .ensures .0) (s .if1 .left) in
     (h .patterns-few, (h .instruments-few, search needs))
 
 returns-2 : tie.Need-returns-2
 returns-2 c =
     let s = c .before .before .before .before in
-    listed (omega arith) (search needs) (wrote-as (text-judged _ (s .before .read .ensures) (s .if1 .left) (c .before .judge .ensures)) (c .put-judgement .ensures))
+    let t = text-judged _ (s .before .read .ensures .0) (s .if1 .left) (c .before .judge .ensures) in
+    let l = listed (omega arith) (search needs) (wrote-as t (c .put-judgement .ensures)) in
+    (l .0, (l .1, demands (bytes-lent (s .before .before .shared-slice-known .given))))
 
 pub list-spec : {M : Type 1} → statement M
 list-spec =

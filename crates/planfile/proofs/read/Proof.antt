@@ -4,14 +4,22 @@ use mathlib.Core.List.{List}
 use Prim.Native.Nat.{ℕ}
 use borrow.Author.Needs.{needs}
 use denote.Ref.{now}
+use Rattle.little_endian.proofs.LittleEndian.{bytes-lent}
 use Rattle.plan.specs.Numbers.{numbers}
 use Rattle.plan.specs.Refusal.{refusalOf}
 use Rattle.plan.specs.declared.Plan.{Plan}
-use Rattle.planfile.specs.Read.{planOf, planWith, layoutRefusal}
+use Rattle.planfile.specs.Read.{planOf, planWith, layoutRefusal, readAnswer}
+use Rattle.planfile.specs.Demand2.{OneFile}
 use Rattle.planfile.specs.declared.ReadAnswer.{ReadAnswer}
 use Rattle.planfile.proofs.Checks.{first-long, layout-first, layout-laid, refusedBy, refused-layout, refused-plan, accepted}
+use Rattle.planfile.proofs.Demand2.{file-read}
 use Rattle.planfile.proofs.read.Statement.{statement}
 use Rattle.planfile.proofs.read.Tie as tie
+
+-- what is answered, and that the file, which is bytes, is the one file of it
+told : (c : tie.After-shared-slice-known) {a : ReadAnswer} → a ≡ readAnswer (now (c .before .args .file))
+    → (a ≡ readAnswer (now (c .before .args .file))) × (a .refusal ≡ 0 → OneFile (now (c .before .args .file)) (a .plan))
+told c is = (is, file-read (bytes-lent (c .shared-slice-known .given)) is)
 
 layout-refusal-requires : tie.Need-layout-refusal-requires
 layout-refusal-requires c κs = search needs
@@ -23,7 +31,7 @@ refused-requires c κs = search needs
 returns : tie.Need-returns
 returns c =
     let l = c .before .before .layout-refusal .ensures in
-    c .refused .ensures ∙ ap refusedBy l ∙ sym (refused-layout _ (λ e. c .before .if1 .taken (l ∙ e)))
+    told (c .before .before .before) (c .refused .ensures ∙ ap refusedBy l ∙ sym (refused-layout _ (λ e. c .before .if1 .taken (l ∙ e))))
 
 -- ---- none
 module _ (c : tie.Else1) where
@@ -59,13 +67,14 @@ refused-requires-2 c κs = search needs
 returns-2 : tie.Need-returns-2
 returns-2 c =
     let d = c .before .before in
-    c .refused2 .ensures ∙ ap refusedBy (refusal-is d) ∙ sym (refused-plan _ (none (else1 d)) (λ e. c .before .if2 .taken (refusal-is d ∙ e)))
+    told (else1 d .before .before)
+    (c .refused2 .ensures ∙ ap refusedBy (refusal-is d) ∙ sym (refused-plan _ (none (else1 d)) (λ e. c .before .if2 .taken (refusal-is d ∙ e))))
 
 returns-3 : tie.Need-returns-3
 returns-3 c =
     let d = c .before in
     let answer : Plan → ReadAnswer = λ plan. record { refusal = 0; plan = plan } in
-    ap answer (plan-is d) ∙ sym (accepted _ (none (else1 d)) (sym (refusal-is d) ∙ c .if2 .left))
+    told (else1 d .before .before) (ap answer (plan-is d) ∙ sym (accepted _ (none (else1 d)) (sym (refusal-is d) ∙ c .if2 .left)))
 
 pub read-spec : {M : Type 1} → statement M
 read-spec =

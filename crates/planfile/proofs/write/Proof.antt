@@ -6,6 +6,7 @@ use Rattle.plan.specs.Numbers.{numbers}
 use Rattle.plan.specs.Refusal.{refusalOf}
 use Rattle.plan.proofs.Checks.{accepted}
 use Rattle.planfile.proofs.WriteAnswers.{refused-plan, refused-short, written}
+use Rattle.planfile.proofs.Demand2.{file-written}
 use Rattle.planfile.proofs.write.Statement.{statement}
 use Rattle.planfile.proofs.write.Tie as tie
 
@@ -15,7 +16,7 @@ refusal-requires c κs = search needs
 returns : tie.Need-returns
 returns c =
     let w = refused-plan _ _ (c .before .refusal .ensures) (c .if1 .taken) in
-    (w .told, w .left)
+    (w .told, (w .left, file-written w))
 
 module _ (c : tie.Else1) where
   ok : refusalOf (numbers (c .before .before .before .args .plan)) ≡ 0
@@ -28,7 +29,7 @@ returns-2 : tie.Need-returns-2
 returns-2 c =
     let d = c .before in
     let w = refused-short _ _ (ok (d .before)) (d .file-size .ensures) (c .if2 .taken) in
-    (w .told, w .left)
+    (w .told, (w .left, file-written w))
 
 put-file-requires : tie.Need-put-file-requires
 put-file-requires c κs =
@@ -44,7 +45,7 @@ returns-3 c =
     let e = p .before .before in
     let d = e .before in
     let w = written _ _ (ok (d .before)) (d .file-size .ensures) (p .put-file .ensures) (e .if2 .left) in
-    (w .told, w .left)
+    (w .told, (w .left, file-written w))
 
 pub write-spec : {M : Type 1} → statement M
 write-spec =
