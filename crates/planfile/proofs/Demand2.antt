@@ -17,7 +17,7 @@ use Rattle.planfile.specs.Read.{planOf, readAnswer}
 use Rattle.planfile.specs.Write.{fileOf, writeRefusal, writeAnswer, bufferAfter}
 use Rattle.planfile.specs.Cleared.{cleared}
 use Rattle.planfile.specs.Demand2.{OneFile}
-use Rattle.planfile.proofs.Written.{answer-written, plan-taken, buffer-written}
+use Rattle.planfile.proofs.Written.{numbers-cleared, answer-written, plan-taken, buffer-written}
 use Rattle.planfile.proofs.WriteAnswers.{Left}
 use Rattle.planfile.proofs.Numbers.{taken, taken-too, plan-read}
 use Rattle.planfile.proofs.Again.{written-again, only-file}
@@ -33,6 +33,7 @@ module _ (plan : Plan) (e : refusalOf (numbers plan) ≡ 0) where
     written = λ buffer room. answer-accepted _ _ _ (none-refuses buffer room);
     left = λ buffer room. buffer-written plan buffer (none-refuses buffer room);
     read = answer-written plan e;
+    same = numbers-cleared plan e;
     only = λ t b r. let a = ap (λ (a : ReadAnswer). a .refusal) r in
         only-file plan e b (taken-too t a) (sym (plan-read t a) ∙ ap (λ (a : ReadAnswer). a .plan) r);
   }

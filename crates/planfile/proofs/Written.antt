@@ -127,8 +127,11 @@ module _ (plan : Plan) (e : refusalOf (numbers plan) ≡ 0) where
       rw (head-written plan, instrument, outflows, rollover, pattern, allocation)
 
   -- and its numbers
+  pub numbers-cleared : numbers (cleared plan) ≡ numbers plan
+  numbers-cleared = sym (agree-same plan (cleared plan) (cleared-agrees plan (taken .head)))
+
   pub numbers-written : numbers (planOf s) ≡ numbers plan
-  numbers-written = ap numbers plan-written ∙ sym (agree-same plan (cleared plan) (cleared-agrees plan (taken .head)))
+  numbers-written = ap numbers plan-written ∙ numbers-cleared
 
   -- ---- no check refuses the file
   abbrev h : Head
