@@ -1,11 +1,13 @@
 -- What the tests of the plan's arrays say of its numbers, and what a plan has that is not refused.
 use mathlib.Core.Path.{_≡_, refl, sym, ap, _∙_}
 use mathlib.Core.Bool.{Bool, true, false}
+use mathlib.Core.List.{List, []}
 use Prim.Native.Nat.{ℕ, zero, suc, _-_, _<_}
 use native.Mathlib.Omega.{arith}
 use borrow.Author.Tests.{eqb-true}
 use lib.Dec.{leb, eqb}
-use lib.IntN.{ℤ, pos, natAbs}
+use lib.ListN.{getD}
+use lib.IntN.{ℤ, pos}
 use Rattle.whole.specs.Range.{million, Between, Within}
 use Rattle.whole.specs.Sum.{sumℕ}
 use Rattle.whole.specs.Test.{both, all, isFrom, isBetween, isWithin}
@@ -44,22 +46,39 @@ use Rattle.plan.specs.Refusal.{
   Head,
   Accepted,
 }
+use Rattle.plan.specs.declared.Instrument.{Instrument}
+use Rattle.plan.specs.declared.Pattern.{Pattern}
 use Rattle.plan.specs.declared.Plan.{Plan}
 use Rattle.plan.proofs.Numbers.{payment-is, outflow-is, rollover-is, rollover-past, rate-is, allocation-is}
 
 -- ---- each test of an array is the test of the numbers that stand there
+-- the payments of the instrument at j, and the rates of the pattern at t
+abbrev pub paymentsHeld : (rows : List Instrument) (years j : ℕ) → Bool
+paymentsHeld rows years j = all years (λ k. isBetween (pos 0) (pos most) (getD (getD rows j (record { payments = [] }) .payments) k (pos 0)))
+
+abbrev pub ratesHeld : (rows : List Pattern) (years t : ℕ) → Bool
+ratesHeld rows years t = all (years - 1) (λ l. leb (getD (getD rows t (record { rates = [] }) .rates) l 0) top)
+
 module _ (plan : Plan) where
-  pub payments-fit : (j : ℕ) → j < plan .instruments → all (plan .years) (λ k. isBetween (pos 0) (pos most) (paymentAt plan j k)) ≡ paymentsFit (numbers plan) j
+  payments-fit : (j : ℕ) → j < plan .instruments → paymentsHeld (plan .instrument) (plan .years) j ≡ paymentsFit (numbers plan) j
   unfolding paymentsFit
   payments-fit j h = all-cong (plan .years) _ _ (λ k l. ap (isBetween (pos 0) (pos most)) (sym (payment-is plan j k h l)))
+
+  pub payments-ok : all (plan .instruments) (paymentsHeld (plan .instrument) (plan .years)) ≡ paymentsOk (numbers plan)
+  unfolding paymentsOk
+  payments-ok = all-cong (plan .instruments) _ _ payments-fit
 
   pub outflows-ok : all (plan .years) (λ k. isWithin most (outflowAt plan k)) ≡ outflowsOk (numbers plan)
   unfolding outflowsOk
   outflows-ok = all-cong (plan .years) _ _ (λ k l. ap (isWithin most) (sym (outflow-is plan k l)))
 
-  pub rates-fit : (t : ℕ) → t < plan .patterns → all (plan .years - 1) (λ l. leb (natAbs (rateAt plan t l)) top) ≡ ratesFit (numbers plan) t
+  rates-fit : (t : ℕ) → t < plan .patterns → ratesHeld (plan .pattern) (plan .years) t ≡ ratesFit (numbers plan) t
   unfolding ratesFit
   rates-fit t h = all-cong (plan .years - 1) _ _ (λ l k. sym (between-pos top _) ∙ ap (isBetween (pos 0) (pos top)) (sym (rate-is plan t l h k)))
+
+  pub rates-ok : all (plan .patterns) (ratesHeld (plan .pattern) (plan .years)) ≡ ratesOk (numbers plan)
+  unfolding ratesOk
+  rates-ok = all-cong (plan .patterns) _ _ rates-fit
 
   pub rollover-ok : eqb (sumℕ (plan .terms) (rolloverAt plan)) million ≡ rolloverOk (numbers plan)
   unfolding rolloverOk
