@@ -2,9 +2,9 @@
 use mathlib.Core.Path.{_≡_, refl, sym, ap, _∙_}
 use mathlib.Core.Bool.{Bool, true, false}
 use mathlib.Core.List.{List, []}
-use Prim.Native.Nat.{ℕ, zero, suc, _-_, _<_}
+use Prim.Native.Nat.{ℕ, zero, suc, _+_, _-_, _<_}
 use native.Mathlib.Omega.{arith}
-use borrow.Author.Tests.{eqb-true}
+use borrow.Author.Tests.{eqb-true, eq-eqb}
 use lib.Dec.{leb, eqb}
 use lib.ListN.{getD}
 use lib.IntN.{ℤ, pos}
@@ -15,7 +15,7 @@ use Rattle.whole.specs.Entry.{entry}
 use Rattle.whole.proofs.Bridge.{whole}
 use Rattle.whole.proofs.Entry.{entry-each}
 use Rattle.whole.proofs.Sum.{Σℕ-from}
-use Rattle.whole.proofs.Test.{both-first, both-second, all-at, all-cong, between-fact, between-pos, from-low, from-high}
+use Rattle.whole.proofs.Test.{both-first, both-second, all-yes, all-at, all-cong, between-fact, between-yes, between-pos, from-low, from-high, from-yes}
 use Rattle.plan.specs.Numbers.{
   Numbers,
   paymentAt,
@@ -189,3 +189,27 @@ accepted plan e =
       rates = rate-each plan (check-true (ratesOk P) 8 _ (omega arith) e₇);
       allocation = eqb-true _ _ (check-true (allocationOk P) 9 _ (omega arith) e₈);
     }
+
+-- and what has all that is not refused
+module _ {P : Numbers} (ok : Accepted P) where
+  head-passes : headOk P ≡ true
+  unfolding headOk
+  head-passes =
+      let h = ok .head in
+      rw (from-yes 1 30 (P .years) (h .years-some) (h .years-few), from-yes 1 16 (P .instruments) (h .instruments-some) (h .instruments-few), from-yes 1 30 (P .terms) (h .terms-some) (h .terms-few), from-yes 1 64 (P .patterns) (h .patterns-some) (h .patterns-few))
+
+  payments-pass : paymentsOk P ≡ true
+  unfolding paymentsOk paymentsFit
+  payments-pass = all-yes (P .instruments) _ (λ j l. all-yes (P .years) _ (λ k m. between-yes _ _ _ (ok .payments (1 + k) (1 + j))))
+
+  outflows-pass : outflowsOk P ≡ true
+  unfolding outflowsOk
+  outflows-pass = all-yes (P .years) _ (λ k l. between-yes _ _ _ (ok .outflows (1 + k)))
+
+  rates-pass : ratesOk P ≡ true
+  unfolding ratesOk ratesFit
+  rates-pass = all-yes (P .patterns) _ (λ t h. all-yes (P .years - 1) _ (λ l k. between-yes _ _ _ (ok .rates (1 + t) (2 + l))))
+
+  pub accepted-none : refusalOf P ≡ 0
+  unfolding refusalOf rolloverOk allocationOk
+  accepted-none = rw (head-passes, payments-pass, outflows-pass, eq-eqb _ _ (ok .rollover), rates-pass, eq-eqb _ _ (ok .allocation))
