@@ -96,7 +96,8 @@ fn rates_of(plan: Plan, t: usize) -> [i64; 30]
     ensures { λ s. ⌜ s ≡ ratesArray (numbers plan) t ⌝ }
 {
     let at = t - 1;
-    let row = plan.pattern[at];
+    let pattern = plan.pattern;
+    let row = pattern[at];
     let xs = row.rates;
     let years = plan.years;
     widened(xs, years - 1)
@@ -109,9 +110,10 @@ fn payments_of(plan: Plan) -> [[i64; 30]; 16]
 {
     let n = plan.instruments;
     let years = plan.years;
+    let instrument = plan.instrument;
     let mut rows = [[0i64; 30]; 16];
     for j in 0..n {
-        let one = plan.instrument[j];
+        let one = instrument[j];
         let xs = one.payments;
         rows[j] = cut(xs, years);
     }
@@ -153,11 +155,12 @@ fn flow_of(plan: Plan, payments: &[[i64; 30]; 16]) -> [i64; 30]
     let years = plan.years;
     let n = plan.instruments;
     let p = plan.allocation;
+    let o = plan.outflows;
     let mut v = [0i64; 30];
     for k in 0..years {
         let c = column(payments, n, k);
         let z = weighted(c, p, n);
-        v[k] = whole::down(z) - plan.outflows[k];
+        v[k] = whole::down(z) - o[k];
     }
     v
 }
@@ -168,9 +171,10 @@ fn outflow_of(plan: Plan) -> [i64; 30]
     ensures { λ s. ⌜ s ≡ outflowArray (numbers plan) ⌝ }
 {
     let years = plan.years;
+    let o = plan.outflows;
     let mut v = [0i64; 30];
     for k in 0..years {
-        v[k] = 0 - plan.outflows[k];
+        v[k] = 0 - o[k];
     }
     v
 }
