@@ -12,7 +12,7 @@ ghost use Rattle.whole.specs.Range.{limit, Between, Within};
 ghost use Rattle.whole.specs.Sum.{sum};
 ghost use Rattle.whole.specs.Test.{pick};
 ghost use Rattle.whole.specs.Table.{table};
-ghost use Rattle.reckoning.specs.Arrays.{sharesOf, ratesOf, amountsOf, Years, Rates, Ready};
+ghost use Rattle.reckoning.specs.Arrays.{sharesOf, ratesOf, amountsOf, Years, Ready};
 ghost use Rattle.plan.specs.Numbers.{numbers};
 ghost use Rattle.plan.specs.Refusal.{Accepted};
 ghost use Rattle.planner.specs.Calls.{noForm, callRefusal, fundAnswer, boundAnswer, gammasAnswer, formReckoned, formAnswer};
@@ -245,25 +245,30 @@ fn no_form(refusal: u8) -> FormAnswer
 }
 
 // K_1 to K_n, Q and the value at the plan's allocation.
-fn form_at(plan: Plan, common: Common, payments: &[[i64; 30]; 16], i: &[i64; 30]) -> FormAnswer
+fn form_at(
+    plan: Plan,
+    outflow: &[i64; 30],
+    payments: &[[i64; 30]; 16],
+    r: &[i64; 30],
+    w: &[i64; 30],
+    i: &[i64; 30],
+) -> FormAnswer
     requires { ⌜ Accepted (numbers plan) ⌝ }
-    requires { ⌜ common ≡ commonOf (numbers plan) ⌝ }
+    requires { ⌜ now outflow ≡ outflowArray (numbers plan) ⌝ }
     requires { ⌜ now payments ≡ paymentsRows (numbers plan) ⌝ }
-    requires { ⌜ Rates (now i) ⌝ }
+    requires { ⌜ now r ≡ rolloverArray (numbers plan) ⌝ }
+    requires { ⌜ Ready (plan .terms) (now r) (now w) (now i) ⌝ }
     ensures { λ s. ⌜ s ≡ formReckoned (numbers plan) (ratesOf (now (i .entry))) ⌝ }
 {
     let n = plan.instruments;
     let years = plan.years;
     let q = plan.terms;
-    let r = common.rollover;
-    let w = common.weights;
-    let c = coefficients_of(payments, &r, &w, i, n, years, q);
+    let c = coefficients_of(payments, r, w, i, n, years, q);
     let no = c.refusal;
     if no != 0 {
         return no_form(11);
     }
-    let o = common.outflow;
-    let d = reckoning::fund(&o, &r, &w, i, years, q);
+    let d = reckoning::fund(outflow, r, w, i, years, q);
     let also = d.refusal;
     if also != 0 {
         return no_form(11);
@@ -351,10 +356,13 @@ pub fn form(plan: Plan, t: usize) -> FormAnswer
     if no != 0 {
         return no_form(no);
     }
-    let payments = payments_of(plan);
-    let common = common_of(plan, &payments);
+    let q = plan.terms;
+    let r = rollover_of(plan);
+    let w = reckoning::weights(r, q);
     let pattern = rates_of(plan, t);
-    form_at(plan, common, &payments, &pattern)
+    let payments = payments_of(plan);
+    let o = outflow_of(plan);
+    form_at(plan, &o, &payments, &r, &w, &pattern)
 }
 
 // The table of gammas of pattern t.
