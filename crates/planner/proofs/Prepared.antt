@@ -2,6 +2,7 @@
 use mathlib.Core.Path.{_≡_, refl, sym, ap}
 use mathlib.Core.List.{List}
 use Prim.Native.Nat.{ℕ, _+_, _<_}
+use native.Mathlib.Omega.{arith}
 use lib.IntN.{ℤ, pos, negℤ}
 use Rattle.whole.specs.Test.{all}
 use Rattle.whole.specs.Table.{table}
@@ -16,10 +17,10 @@ use Rattle.planner.specs.Calls.{flowOf}
 use Rattle.planner.specs.Arrays.{rolloverArray, ratesArray, flowArray, outflowArray, paymentsRows, commonOf, flowsIn, Payments, Flows, fundsReckoned}
 use Rattle.planner.specs.Rows.{rowAnswer}
 use Rattle.planner.specs.declared.Common.{Common}
-use Rattle.planner.proofs.Held.{rollover-held, rates-held, flow-held, outflow-held, payments-held, rates, flow-amounts, outflow-amounts, payments-amounts, ready}
+use Rattle.planner.proofs.Held.{rollover-held, rates-held, rates-array, flow-held, outflow-held, payments-held, rates, flow-amounts, outflow-amounts, payments-amounts, ready}
 use Rattle.planner.proofs.Answers.{Called}
 use Rattle.planner.proofs.FormLaws.{coefficientsOf}
-use Rattle.planner.proofs.RowLaws.{rowReckoned}
+use Rattle.planner.proofs.RowLaws.{rowReckoned, rowBy, ratesIn}
 
 -- ---- one pattern
 module _ (plan : Plan) (t : ℕ) (c : Called plan t) {i : List ℤ} (e : i ≡ ratesArray (numbers plan) t) where
@@ -81,8 +82,10 @@ module _ (plan : Plan) (ok : Accepted (numbers plan)) where
       payments = payments-taken g;
     })
 
-    -- and what all of these come to is the row of the pattern
-    pub row-is : {i : ℕ → ℤ} (t : ℕ) → i ≡ P .i t →
-        rowAnswer (sharesOf (common .rollover)) i (plan .years) (plan .instruments) (amountsOf (common .flow)) (amountsOf (common .outflow)) (flowsIn payments) ≡ rowReckoned P t
+    -- and what all of these come to is the row of each pattern
+    pub common-row : (t : ℕ) → t < plan .patterns →
+        rowBy (common .rollover) (common .flow) (common .outflow) payments (plan .years) (plan .instruments) (ratesIn (plan .years) (plan .pattern) t) ≡ rowReckoned P (1 + t)
     unfolding rowAnswer commonOf
-    row-is t h = rw (h, e, rollover-held plan ok, flow-held plan ok, outflow-held plan ok, all-fit g (P .i t), all-funds g (P .i t))
+    common-row t l =
+        let i = pattern-held plan (1 + t) (record { plan-ok = ok; some = omega arith; few = omega arith }) (rates-array plan ok t l) in
+        rw (e, i, rollover-held plan ok, flow-held plan ok, outflow-held plan ok, all-fit g (P .i (1 + t)), all-funds g (P .i (1 + t)))

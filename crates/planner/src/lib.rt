@@ -18,7 +18,7 @@ ghost use Rattle.plan.specs.Refusal.{Accepted};
 ghost use Rattle.planner.specs.Calls.{noForm, callRefusal, fundAnswer, boundAnswer, gammasAnswer, formReckoned, formAnswer};
 ghost use Rattle.planner.specs.Verdict.{short, wordOf, bitsOf, noPattern, planWordOf, verdictAnswer, judgementOf};
 ghost use Rattle.planner.specs.Arrays.{rolloverArray, ratesArray, flowArray, outflowArray, paymentsRows, commonOf, columnOf, flowsIn, Payments, Flows, fundsReckoned, Weighable};
-ghost use Rattle.planner.specs.Rows.{refusedRow, rowAnswer, noJudgement, rowsReckoned, verdictOf};
+ghost use Rattle.planner.specs.Rows.{refusedRow, rowAnswer, noJudgement, verdictOf};
 ghost use Rattle.planner.specs.Demand3.{FundNear, FormNear, VerdictTrue};
 
 pub struct BoundAnswer {
@@ -400,12 +400,6 @@ pub struct OneRow {
     pub row: PatternRow,
 }
 
-pub struct PatternRows {
-    pub refusal: u8,
-    pub words: [u8; 64],
-    pub rows: [PatternRow; 64],
-}
-
 // The word of every pattern; the short ones as bits, bit t - 1 for pattern t; the plan's word.
 pub struct VerdictAnswer {
     pub refusal: u8,
@@ -507,48 +501,6 @@ fn row_at(
     }
 }
 
-// Every pattern in turn, until check 11 refuses one.
-fn rows_of(plan: Plan, common: Common, payments: &[[i64; 30]; 16]) -> PatternRows
-    requires { ⌜ Accepted (numbers plan) ⌝ }
-    requires { ⌜ common ≡ commonOf (numbers plan) ⌝ }
-    requires { ⌜ now payments ≡ paymentsRows (numbers plan) ⌝ }
-    ensures { λ s. ⌜ s ≡ rowsReckoned (numbers plan) ⌝ }
-{
-    let m = plan.patterns;
-    let n = plan.instruments;
-    let years = plan.years;
-    let q = plan.terms;
-    let flow = common.flow;
-    let outflow = common.outflow;
-    let r = common.rollover;
-    let w = common.weights;
-    let none = no_pattern();
-    let mut words = [0u8; 64];
-    let mut rows = [none; 64];
-    for t in 0..m {
-        let pattern = plan.pattern[t];
-        let xs = pattern.rates;
-        let i = widened(xs, years - 1);
-        let c = row_at(&flow, &outflow, payments, &r, &w, &i, n, years, q);
-        let refusal = c.refusal;
-        if refusal != 0 {
-            return PatternRows {
-                refusal: 11,
-                words: [0u8; 64],
-                rows: [none; 64],
-            };
-        }
-        let row = c.row;
-        words[t] = row.word;
-        rows[t] = row;
-    }
-    PatternRows {
-        refusal: 0,
-        words: words,
-        rows: rows,
-    }
-}
-
 fn short_bit(word: u8) -> u64
     ensures { λ s. ⌜ s ≡ pick (eqb word short) 1 0 ⌝ }
 {
@@ -616,6 +568,55 @@ fn no_judgement(refusal: u8) -> Judgement
     }
 }
 
+// Every pattern in turn, until check 11 refuses one, and the verdict that their words make.
+fn judged(plan: Plan, common: Common, payments: &[[i64; 30]; 16]) -> Judgement
+    requires { ⌜ Accepted (numbers plan) ⌝ }
+    requires { ⌜ common ≡ commonOf (numbers plan) ⌝ }
+    requires { ⌜ now payments ≡ paymentsRows (numbers plan) ⌝ }
+    ensures { λ s. ⌜ s ≡ judgementOf (numbers plan) ⌝ }
+{
+    let m = plan.patterns;
+    let n = plan.instruments;
+    let years = plan.years;
+    let q = plan.terms;
+    let pattern = plan.pattern;
+    let flow = common.flow;
+    let outflow = common.outflow;
+    let r = common.rollover;
+    let w = common.weights;
+    let none = no_pattern();
+    let mut words = [0u8; 64];
+    let mut rows = [none; 64];
+    for t in 0..m {
+        let one = pattern[t];
+        let xs = one.rates;
+        let i = widened(xs, years - 1);
+        let c = row_at(&flow, &outflow, payments, &r, &w, &i, n, years, q);
+        let refusal = c.refusal;
+        if refusal != 0 {
+            return no_judgement(11);
+        }
+        let row = c.row;
+        words[t] = row.word;
+        rows[t] = row;
+    }
+    let verdict = verdict_of(words, m);
+    Judgement {
+        verdict: verdict,
+        rows: rows,
+    }
+}
+
+// That of a plan that was already checked: the project's own leaf and no entry, since a reader of a file has made the checks.
+pub fn judge_accepted(plan: Plan) -> Judgement
+    requires { ⌜ Accepted (numbers plan) ⌝ }
+    ensures { λ s. ⌜ s ≡ judgementOf (numbers plan) ⌝ }
+{
+    let payments = payments_of(plan);
+    let common = common_of(plan, &payments);
+    judged(plan, common, &payments)
+}
+
 // The verdict on a plan, with what each of its patterns comes to.
 pub fn judge(plan: Plan) -> Judgement
     ensures { λ s. ⌜ s ≡ judgementOf (numbers plan) ⌝ }
@@ -624,21 +625,7 @@ pub fn judge(plan: Plan) -> Judgement
     if no != 0 {
         return no_judgement(no);
     }
-    let payments = payments_of(plan);
-    let common = common_of(plan, &payments);
-    let c = rows_of(plan, common, &payments);
-    let also = c.refusal;
-    if also != 0 {
-        return no_judgement(11);
-    }
-    let m = plan.patterns;
-    let words = c.words;
-    let verdict = verdict_of(words, m);
-    let rows = c.rows;
-    Judgement {
-        verdict: verdict,
-        rows: rows,
-    }
+    judge_accepted(plan)
 }
 
 // The verdict on a plan.
