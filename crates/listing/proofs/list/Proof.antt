@@ -1,7 +1,7 @@
 -- `listing::list` puts down a refusal's line, or the text of the judgement on the plan that was read.
 use native.Mathlib.Omega.{arith}
 use borrow.Author.Needs.{needs}
-use Rattle.listing.proofs.File.{text-refused, text-judged, head-read}
+use Rattle.listing.proofs.File.{text-refused, text-judged, accepted-read}
 use Rattle.listing.proofs.Wrote.{wrote-as, listed}
 use Rattle.listing.proofs.list.Statement.{statement}
 use Rattle.listing.proofs.list.Tie as tie
@@ -15,19 +15,19 @@ put-refused-requires c κs = search needs
 returns : tie.Need-returns
 returns c = listed (omega arith) (search needs) (wrote-as (text-refused _ (c .before .before .before .read .ensures) (c .before .before .if1 .taken)) (c .put-refused .ensures))
 
-judge-requires : tie.Need-judge-requires
-judge-requires c κs = search needs
+judge-accepted-requires : tie.Need-judge-accepted-requires
+judge-accepted-requires c κs = let s = c .before .before in accepted-read _ (s .before .read .ensures) (s .if1 .left)
 
 put-judgement-requires : tie.Need-put-judgement-requires
 put-judgement-requires c κs =
     let s = c .before .before .before in
-    let h = head-read _ (s .before .read .ensures) (s .if1 .left) in
+    let h = accepted-read _ (s .before .read .ensures) (s .if1 .left) .head in
     (h .patterns-few, (h .instruments-few, search needs))
 
 returns-2 : tie.Need-returns-2
 returns-2 c =
     let s = c .before .before .before .before in
-    listed (omega arith) (search needs) (wrote-as (text-judged _ (s .before .read .ensures) (s .if1 .left) (c .before .judge .ensures)) (c .put-judgement .ensures))
+    listed (omega arith) (search needs) (wrote-as (text-judged _ (s .before .read .ensures) (s .if1 .left) (c .before .judge-accepted .ensures)) (c .put-judgement .ensures))
 
 pub list-spec : {M : Type 1} → statement M
 list-spec =
@@ -36,6 +36,6 @@ list-spec =
     read-requires
     put-refused-requires
     returns
-    judge-requires
+    judge-accepted-requires
     put-judgement-requires
     returns-2)
