@@ -369,7 +369,8 @@ fn verdict_of_file(file: &[u8]) -> VerdictAnswer
         };
     }
     let plan = found.plan;
-    planner::verdict(plan)
+    let j = planner::judge_accepted(plan);
+    j.verdict
 }
 
 // The word of each pattern, the short ones as bits, and the plan's word; each is true of the exact fund.

@@ -3,13 +3,12 @@ use mathlib.Core.Path.{_≡_, sym, ap, _∙_}
 use mathlib.Core.List.{List}
 use Prim.Native.Nat.{ℕ}
 use Rattle.plan.specs.Numbers.{numbers}
-use Rattle.plan.specs.Refusal.{answer, Head}
+use Rattle.plan.specs.Refusal.{answer}
 use Rattle.plan.proofs.Checks.{answer-refused, answer-accepted}
 use Rattle.planner.specs.Verdict.{judgementOf}
 use Rattle.planner.specs.declared.Judgement.{Judgement}
 use Rattle.planfile.specs.Read.{readAnswer}
 use Rattle.planfile.specs.declared.ReadAnswer.{ReadAnswer}
-use Rattle.planfile.proofs.Numbers.{read-accepted}
 use Rattle.listing.specs.Text.{refusedText, judgementText, planText, textOf}
 
 module _ (s : List ℕ) {a : ReadAnswer} (e : a ≡ readAnswer s) where
@@ -23,6 +22,3 @@ module _ (s : List ℕ) {a : ReadAnswer} (e : a ≡ readAnswer s) where
   module _ (f : a .refusal ≡ 0) where
     pub text-judged : {j : Judgement} → j ≡ judgementOf (numbers (a .plan)) → judgementText (a .plan .patterns) (a .plan .instruments) j ≡ textOf s
     text-judged g = ap (judgementText (a .plan .patterns) (a .plan .instruments)) g ∙ sym (answer-accepted refusedText (a .refusal) _ f) ∙ text-is
-
-    pub head-read : Head (numbers (a .plan))
-    head-read = rw e (read-accepted s (rw e at f) .head)

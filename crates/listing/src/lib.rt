@@ -221,5 +221,5 @@ pub fn list(file: &[u8], out: &mut [u8; 32768]) -> usize
     let plan = found.plan;
     let m = plan.patterns;
     let n = plan.instruments;
-    put_judgement(out, m, n, planner::judge(plan))
+    put_judgement(out, m, n, planner::judge_accepted(plan))
 }

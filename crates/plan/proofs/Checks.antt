@@ -1,11 +1,13 @@
 -- What the tests of the plan's arrays say of its numbers, and what a plan has that is not refused.
 use mathlib.Core.Path.{_≡_, refl, sym, ap, _∙_}
 use mathlib.Core.Bool.{Bool, true, false}
-use Prim.Native.Nat.{ℕ, zero, suc, _-_, _<_}
+use mathlib.Core.List.{List, []}
+use Prim.Native.Nat.{ℕ, zero, suc, _+_, _-_, _<_}
 use native.Mathlib.Omega.{arith}
-use borrow.Author.Tests.{eqb-true}
+use borrow.Author.Tests.{eqb-true, eq-eqb}
 use lib.Dec.{leb, eqb}
-use lib.IntN.{ℤ, pos, natAbs}
+use lib.ListN.{getD}
+use lib.IntN.{ℤ, pos}
 use Rattle.whole.specs.Range.{million, Between, Within}
 use Rattle.whole.specs.Sum.{sumℕ}
 use Rattle.whole.specs.Test.{both, all, isFrom, isBetween, isWithin}
@@ -13,7 +15,7 @@ use Rattle.whole.specs.Entry.{entry}
 use Rattle.whole.proofs.Bridge.{whole}
 use Rattle.whole.proofs.Entry.{entry-each}
 use Rattle.whole.proofs.Sum.{Σℕ-from}
-use Rattle.whole.proofs.Test.{both-first, both-second, all-at, all-cong, between-fact, between-pos, from-low, from-high}
+use Rattle.whole.proofs.Test.{both-first, both-second, all-yes, all-at, all-cong, between-fact, between-yes, between-pos, from-low, from-high, from-yes}
 use Rattle.plan.specs.Numbers.{
   Numbers,
   paymentAt,
@@ -44,22 +46,39 @@ use Rattle.plan.specs.Refusal.{
   Head,
   Accepted,
 }
+use Rattle.plan.specs.declared.Instrument.{Instrument}
+use Rattle.plan.specs.declared.Pattern.{Pattern}
 use Rattle.plan.specs.declared.Plan.{Plan}
 use Rattle.plan.proofs.Numbers.{payment-is, outflow-is, rollover-is, rollover-past, rate-is, allocation-is}
 
 -- ---- each test of an array is the test of the numbers that stand there
+-- the payments of the instrument at j, and the rates of the pattern at t
+abbrev pub paymentsHeld : (rows : List Instrument) (years j : ℕ) → Bool
+paymentsHeld rows years j = all years (λ k. isBetween (pos 0) (pos most) (getD (getD rows j (record { payments = [] }) .payments) k (pos 0)))
+
+abbrev pub ratesHeld : (rows : List Pattern) (years t : ℕ) → Bool
+ratesHeld rows years t = all (years - 1) (λ l. leb (getD (getD rows t (record { rates = [] }) .rates) l 0) top)
+
 module _ (plan : Plan) where
-  pub payments-fit : (j : ℕ) → j < plan .instruments → all (plan .years) (λ k. isBetween (pos 0) (pos most) (paymentAt plan j k)) ≡ paymentsFit (numbers plan) j
+  payments-fit : (j : ℕ) → j < plan .instruments → paymentsHeld (plan .instrument) (plan .years) j ≡ paymentsFit (numbers plan) j
   unfolding paymentsFit
   payments-fit j h = all-cong (plan .years) _ _ (λ k l. ap (isBetween (pos 0) (pos most)) (sym (payment-is plan j k h l)))
+
+  pub payments-ok : all (plan .instruments) (paymentsHeld (plan .instrument) (plan .years)) ≡ paymentsOk (numbers plan)
+  unfolding paymentsOk
+  payments-ok = all-cong (plan .instruments) _ _ payments-fit
 
   pub outflows-ok : all (plan .years) (λ k. isWithin most (outflowAt plan k)) ≡ outflowsOk (numbers plan)
   unfolding outflowsOk
   outflows-ok = all-cong (plan .years) _ _ (λ k l. ap (isWithin most) (sym (outflow-is plan k l)))
 
-  pub rates-fit : (t : ℕ) → t < plan .patterns → all (plan .years - 1) (λ l. leb (natAbs (rateAt plan t l)) top) ≡ ratesFit (numbers plan) t
+  rates-fit : (t : ℕ) → t < plan .patterns → ratesHeld (plan .pattern) (plan .years) t ≡ ratesFit (numbers plan) t
   unfolding ratesFit
   rates-fit t h = all-cong (plan .years - 1) _ _ (λ l k. sym (between-pos top _) ∙ ap (isBetween (pos 0) (pos top)) (sym (rate-is plan t l h k)))
+
+  pub rates-ok : all (plan .patterns) (ratesHeld (plan .pattern) (plan .years)) ≡ ratesOk (numbers plan)
+  unfolding ratesOk
+  rates-ok = all-cong (plan .patterns) _ _ rates-fit
 
   pub rollover-ok : eqb (sumℕ (plan .terms) (rolloverAt plan)) million ≡ rolloverOk (numbers plan)
   unfolding rolloverOk
@@ -170,3 +189,27 @@ accepted plan e =
       rates = rate-each plan (check-true (ratesOk P) 8 _ (omega arith) e₇);
       allocation = eqb-true _ _ (check-true (allocationOk P) 9 _ (omega arith) e₈);
     }
+
+-- and what has all that is not refused
+module _ {P : Numbers} (ok : Accepted P) where
+  head-passes : headOk P ≡ true
+  unfolding headOk
+  head-passes =
+      let h = ok .head in
+      rw (from-yes 1 30 (P .years) (h .years-some) (h .years-few), from-yes 1 16 (P .instruments) (h .instruments-some) (h .instruments-few), from-yes 1 30 (P .terms) (h .terms-some) (h .terms-few), from-yes 1 64 (P .patterns) (h .patterns-some) (h .patterns-few))
+
+  payments-pass : paymentsOk P ≡ true
+  unfolding paymentsOk paymentsFit
+  payments-pass = all-yes (P .instruments) _ (λ j l. all-yes (P .years) _ (λ k m. between-yes _ _ _ (ok .payments (1 + k) (1 + j))))
+
+  outflows-pass : outflowsOk P ≡ true
+  unfolding outflowsOk
+  outflows-pass = all-yes (P .years) _ (λ k l. between-yes _ _ _ (ok .outflows (1 + k)))
+
+  rates-pass : ratesOk P ≡ true
+  unfolding ratesOk ratesFit
+  rates-pass = all-yes (P .patterns) _ (λ t h. all-yes (P .years - 1) _ (λ l k. between-yes _ _ _ (ok .rates (1 + t) (2 + l))))
+
+  pub accepted-none : refusalOf P ≡ 0
+  unfolding refusalOf rolloverOk allocationOk
+  accepted-none = rw (head-passes, payments-pass, outflows-pass, eq-eqb _ _ (ok .rollover), rates-pass, eq-eqb _ _ (ok .allocation))

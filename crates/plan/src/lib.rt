@@ -115,8 +115,9 @@ fn payments_ok(plan: Plan) -> bool
 {
     let n = plan.instruments;
     let years = plan.years;
+    let instrument = plan.instrument;
     for j in 0..n {
-        let row = plan.instrument[j];
+        let row = instrument[j];
         let amounts = row.payments;
         if !amounts_ok(amounts, years, 0, 20_000_000_000) {
             return false;
@@ -132,8 +133,9 @@ fn rates_ok(plan: Plan) -> bool
 {
     let m = plan.patterns;
     let years = plan.years;
+    let pattern = plan.pattern;
     for t in 0..m {
-        let row = plan.pattern[t];
+        let row = pattern[t];
         let rates = row.rates;
         if !at_most(rates, years - 1, 200_000) {
             return false;

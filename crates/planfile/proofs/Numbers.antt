@@ -129,3 +129,7 @@ module _ (s : List ℕ) (e : readAnswer s .refusal ≡ 0) where
 
   pub read-numbers : numbers (readAnswer s .plan) ≡ numbersIn s
   read-numbers = rw plan-read (numbers-read s taken-too)
+
+-- what was answered as a, and is not refused, is an accepted plan
+pub accepted-read : (s : List ℕ) {a : ReadAnswer} → a ≡ readAnswer s → a .refusal ≡ 0 → Accepted (numbers (a .plan))
+accepted-read s e f = rw e (read-accepted s (rw e at f))

@@ -510,9 +510,10 @@ fn put_payments(b: &mut [u8], at: usize, plan: Plan) -> usize
 {
     let n = plan.instruments;
     let years = plan.years;
+    let instrument = plan.instrument;
     let mut place = at;
     for j in 0..n {
-        let row = plan.instrument[j];
+        let row = instrument[j];
         let payments = row.payments;
         place = put_amounts_record(b, place, 2, payments, years);
     }
@@ -557,9 +558,10 @@ fn put_rates(b: &mut [u8], at: usize, plan: Plan) -> usize
 {
     let m = plan.patterns;
     let years = plan.years;
+    let pattern = plan.pattern;
     let mut place = at;
     for t in 0..m {
-        let row = plan.pattern[t];
+        let row = pattern[t];
         place = put_pattern(b, place, row, years - 1);
     }
     place

@@ -14,7 +14,7 @@ use Rattle.whole.specs.Table.{table}
 use Rattle.whole.proofs.Bridge.{whole, at, #, _⊖_, ⊝}
 use Rattle.whole.proofs.Range.{within-more, within-neg, within-fits}
 use Rattle.whole.proofs.Sum.{Σℤ-from}
-use Rattle.whole.proofs.Table.{table-none, table-more, table-at}
+use Rattle.whole.proofs.Table.{table-none, table-more, table-at, table-cong}
 use Rattle.reckoning.specs.Reckoning.{paid, flow}
 use Rattle.plan.specs.Numbers.{Numbers, numbers}
 use Rattle.plan.specs.Refusal.{most, Accepted}
@@ -39,7 +39,14 @@ module _ {A : Type 0} {m n : ℕ} {f : ℕ → A} {d : A} where
   pub fill-end : {v : List A} {k : ℕ} → n ≤ k → Filling m n f d v k → v ≡ table m n f d
   fill-end {v} {k} l s = let e : k ≡ n = omega (arith, s .upto) in rw e at (s .is)
 
+  -- what it was filled with, by another name
+  pub fill-as : {g : ℕ → A} {v : List A} {k : ℕ} → n ≤ k → Filling m n f d v k → ((j : ℕ) → j < n → f j ≡ g j) → v ≡ table m n g d
+  fill-as {g} l s same = fill-end l s ∙ table-cong m n f g d same
+
 -- ---- what the allocation pays in year 1 + k: the weighted sum of a column of the payments
+abbrev pub weighedBy : (p : List ℕ) (n : ℕ) (x : List ℤ) → ℤ
+weighedBy p n x = sum n (λ j. getD x j (pos 0) *ℤ pos (getD p j 0))
+
 module _ (plan : Plan) (ok : Accepted (numbers plan)) {rows : List (List ℤ)} (e : rows ≡ paymentsRows (numbers plan)) {k : ℕ} (l : k < plan .years)
     {c : List ℤ} (f : c ≡ columnOf (plan .instruments) rows k)
   where
@@ -58,7 +65,7 @@ module _ (plan : Plan) (ok : Accepted (numbers plan)) {rows : List (List ℤ)} (
       parts = allocation-parts plan ok;
     }
 
-    pub column-paid : {s : ℤ} → s ≡ sum (plan .instruments) (λ j. getD c j (pos 0) *ℤ pos (getD (plan .allocation) j 0)) → s ≡ paid (plan .instruments) (numbers plan .a) (numbers plan .p) (1 + k)
+    pub column-paid : {s : ℤ} → s ≡ weighedBy (plan .allocation) (plan .instruments) c → s ≡ paid (plan .instruments) (numbers plan .a) (numbers plan .p) (1 + k)
     unfolding paid
     column-paid g = g ∙ sym (Σℤ-from 1 (plan .instruments) (plan .instruments) (λ j. numbers plan .a (1 + k) j *ℤ pos (numbers plan .p j)) _ (omega arith)
         (λ j h. ap₂ (λ (x : ℤ) (p : ℕ). x *ℤ pos p) (sym (column-at j h)) (allocation-is plan j h)))

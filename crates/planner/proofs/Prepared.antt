@@ -2,6 +2,7 @@
 use mathlib.Core.Path.{_≡_, refl, sym, ap}
 use mathlib.Core.List.{List}
 use Prim.Native.Nat.{ℕ, _+_, _<_}
+use native.Mathlib.Omega.{arith}
 use lib.IntN.{ℤ, pos, negℤ}
 use Rattle.whole.specs.Test.{all}
 use Rattle.whole.specs.Table.{table}
@@ -13,13 +14,13 @@ use Rattle.plan.specs.Numbers.{Numbers, numbers}
 use Rattle.plan.specs.Refusal.{Accepted}
 use Rattle.plan.specs.declared.Plan.{Plan}
 use Rattle.planner.specs.Calls.{flowOf}
-use Rattle.planner.specs.Arrays.{rolloverArray, ratesArray, flowArray, paymentsRows, commonOf, flowsIn, Flows, fundsReckoned}
+use Rattle.planner.specs.Arrays.{rolloverArray, ratesArray, flowArray, outflowArray, paymentsRows, commonOf, flowsIn, Payments, Flows, fundsReckoned}
 use Rattle.planner.specs.Rows.{rowAnswer}
 use Rattle.planner.specs.declared.Common.{Common}
-use Rattle.planner.proofs.Held.{rollover-held, rates-held, flow-held, outflow-held, payments-held, rates, flow-amounts, outflow-amounts, payments-amounts, ready}
+use Rattle.planner.proofs.Held.{rollover-held, rates-held, rates-array, flow-held, outflow-held, payments-held, rates, flow-amounts, outflow-amounts, payments-amounts, ready}
 use Rattle.planner.proofs.Answers.{Called}
 use Rattle.planner.proofs.FormLaws.{coefficientsOf}
-use Rattle.planner.proofs.RowLaws.{rowReckoned}
+use Rattle.planner.proofs.RowLaws.{rowReckoned, rowBy, ratesIn}
 
 -- ---- one pattern
 module _ (plan : Plan) (t : ℕ) (c : Called plan t) {i : List ℤ} (e : i ≡ ratesArray (numbers plan) t) where
@@ -38,53 +39,53 @@ module _ (plan : Plan) (t : ℕ) (c : Called plan t) {i : List ℤ} (e : i ≡ r
     gammas-is = rw (f, pattern-held, rollover-held plan (c .plan-ok))
 
 -- ---- what all patterns share
-module _ (plan : Plan) (ok : Accepted (numbers plan)) {common : Common} (e : common ≡ commonOf (numbers plan)) {payments : List (List ℤ)} (g : payments ≡ paymentsRows (numbers plan)) where
+module _ (plan : Plan) (ok : Accepted (numbers plan)) where
   abbrev P : Numbers
   P = numbers plan
 
-  common-rollover : sharesOf (common .rollover) ≡ P .r
-  unfolding commonOf
-  common-rollover = rw e (rollover-held plan ok)
+  -- the payments
+  module _ {payments : List (List ℤ)} (g : payments ≡ paymentsRows P) where
+    payments-are : (j : ℕ) → j < plan .instruments → flowsIn payments j ≡ (λ k. P .a k (1 + j))
+    payments-are = rw g (payments-held plan ok)
 
-  common-flow : amountsOf (common .flow) ≡ flowOf P
-  unfolding commonOf
-  common-flow = rw e (flow-held plan ok)
+    pub payments-taken : Payments (plan .instruments) payments
+    payments-taken = rw g (record { few = ok .head .instruments-few; amounts = payments-amounts plan ok })
 
-  common-outflow : amountsOf (common .outflow) ≡ (λ k. negℤ (P .o k))
-  unfolding commonOf
-  common-outflow = rw e (outflow-held plan ok)
+    all-fit : (i : ℕ → ℤ) → all (plan .instruments) (λ j. fundFits (P .r) i (flowsIn payments j) (plan .years)) ≡ all (plan .instruments) (λ j. fundFits (P .r) i (λ k. P .a k (1 + j)) (plan .years))
+    all-fit i = all-cong (plan .instruments) _ _ (λ j l. ap (λ (f : ℕ → ℤ). fundFits (P .r) i f (plan .years)) (payments-are j l))
 
-  common-payments : (j : ℕ) → j < plan .instruments → flowsIn payments j ≡ (λ k. P .a k (1 + j))
-  common-payments = rw g (payments-held plan ok)
-
-  pub common-ready : {i : List ℤ} → Rates i → Ready (plan .terms) (common .rollover) (common .weights) i
-  unfolding commonOf
-  common-ready = rw e (ready plan ok refl (ap weightsOf (sym (rollover-held plan ok))))
-
-  pub common-flows : Flows (common .flow) (common .outflow) (plan .instruments) payments
-  unfolding commonOf
-  common-flows = rw (e, g) (record {
-    flow-amounts = flow-amounts plan ok;
-    outflow-amounts = outflow-amounts plan ok;
-    payments = record { few = ok .head .instruments-few; amounts = payments-amounts plan ok };
-  })
+    all-funds : (i : ℕ → ℤ) → table 16 (plan .instruments) (λ j. fund (P .r) i (plan .years) (flowsIn payments j)) (pos 0) ≡ table 16 (plan .instruments) (λ j. fund (P .r) i (plan .years) (λ k. P .a k (1 + j))) (pos 0)
+    all-funds i = table-cong 16 (plan .instruments) _ _ (pos 0) (λ j l. ap (fund (P .r) i (plan .years)) (payments-are j l))
 
   -- ---- the core's answers for what is prepared are those for the plan's numbers
-  all-fit : (i : ℕ → ℤ) → all (plan .instruments) (λ j. fundFits (P .r) i (flowsIn payments j) (plan .years)) ≡ all (plan .instruments) (λ j. fundFits (P .r) i (λ k. P .a k (1 + j)) (plan .years))
-  all-fit i = all-cong (plan .instruments) _ _ (λ j l. ap (λ (f : ℕ → ℤ). fundFits (P .r) i f (plan .years)) (common-payments j l))
+  module _ {r : List ℤ} (e : r ≡ rolloverArray P) where
+    shares-are : sharesOf r ≡ P .r
+    shares-are = rw e (rollover-held plan ok)
 
-  all-funds : (i : ℕ → ℤ) → table 16 (plan .instruments) (λ j. fund (P .r) i (plan .years) (flowsIn payments j)) (pos 0) ≡ table 16 (plan .instruments) (λ j. fund (P .r) i (plan .years) (λ k. P .a k (1 + j))) (pos 0)
-  all-funds i = table-cong 16 (plan .instruments) _ _ (pos 0) (λ j l. ap (fund (P .r) i (plan .years)) (common-payments j l))
+    pub coefficients-is : {payments : List (List ℤ)} → payments ≡ paymentsRows P → (i : ℕ → ℤ) → fundsReckoned (sharesOf r) i (plan .years) (plan .instruments) (flowsIn payments) ≡ coefficientsOf P i
+    unfolding fundsReckoned
+    coefficients-is g i = rw (shares-are, all-fit g i, all-funds g i)
 
-  pub coefficients-is : (i : ℕ → ℤ) → fundsReckoned (sharesOf (common .rollover)) i (plan .years) (plan .instruments) (flowsIn payments) ≡ coefficientsOf P i
-  unfolding fundsReckoned
-  coefficients-is i = rw (common-rollover, all-fit i, all-funds i)
+    pub constant-is : {o : List ℤ} → o ≡ outflowArray P → (i : ℕ → ℤ) → fundAnswer (sharesOf r) i (amountsOf o) (plan .years) ≡ fundAnswer (P .r) i (λ k. negℤ (P .o k)) (plan .years)
+    constant-is f i = rw (shares-are, f, outflow-held plan ok)
 
-  pub constant-is : (i : ℕ → ℤ) → fundAnswer (sharesOf (common .rollover)) i (amountsOf (common .outflow)) (plan .years) ≡ fundAnswer (P .r) i (λ k. negℤ (P .o k)) (plan .years)
-  constant-is i = rw (common-rollover, common-outflow)
+  module _ {common : Common} (e : common ≡ commonOf P) {payments : List (List ℤ)} (g : payments ≡ paymentsRows P) where
+    pub common-ready : {i : List ℤ} → Rates i → Ready (plan .terms) (common .rollover) (common .weights) i
+    unfolding commonOf
+    common-ready = rw e (ready plan ok refl (ap weightsOf (sym (rollover-held plan ok))))
 
-  -- and what all of these come to is the row of the pattern
-  pub row-is : {i : ℕ → ℤ} (t : ℕ) → i ≡ P .i t →
-      rowAnswer (sharesOf (common .rollover)) i (plan .years) (plan .instruments) (amountsOf (common .flow)) (amountsOf (common .outflow)) (flowsIn payments) ≡ rowReckoned P t
-  unfolding rowAnswer
-  row-is t h = rw (h, common-rollover, common-flow, common-outflow, all-fit (P .i t), all-funds (P .i t))
+    pub common-flows : Flows (common .flow) (common .outflow) (plan .instruments) payments
+    unfolding commonOf
+    common-flows = rw e (record {
+      flow-amounts = flow-amounts plan ok;
+      outflow-amounts = outflow-amounts plan ok;
+      payments = payments-taken g;
+    })
+
+    -- and what all of these come to is the row of each pattern
+    pub common-row : (t : ℕ) → t < plan .patterns →
+        rowBy (common .rollover) (common .flow) (common .outflow) payments (plan .years) (plan .instruments) (ratesIn (plan .years) (plan .pattern) t) ≡ rowReckoned P (1 + t)
+    unfolding rowAnswer commonOf
+    common-row t l =
+        let i = pattern-held plan (1 + t) (record { plan-ok = ok; some = omega arith; few = omega arith }) (rates-array plan ok t l) in
+        rw (e, i, rollover-held plan ok, flow-held plan ok, outflow-held plan ok, all-fit g (P .i (1 + t)), all-funds g (P .i (1 + t)))

@@ -11,11 +11,11 @@ use lib.IntN.{ℤ, pos, _+ℤ_}
 use lib.Signed.{leZ, _≤ℤ_}
 use Rattle.whole.specs.Test.{pick, all}
 use Rattle.whole.specs.Table.{table}
-use Rattle.whole.proofs.Test.{picked-yes, picked-no, picked-is, all-at, all-cong, le-true}
+use Rattle.whole.proofs.Test.{all-at, all-cong, le-true}
 use Rattle.whole.proofs.Table.{table-at}
 use Rattle.plan.specs.Numbers.{Numbers}
-use Rattle.plan.specs.Refusal.{refusalOf}
-use Rattle.plan.proofs.Checks.{first-some}
+use Rattle.plan.specs.Refusal.{refusalOf, Accepted}
+use Rattle.plan.proofs.Checks.{first-some, accepted-none}
 use Rattle.planner.specs.Verdict.{
   solvent,
   short,
@@ -35,9 +35,8 @@ use Rattle.planner.specs.Verdict.{
   rowsOf,
   judgementOf,
 }
-use Rattle.planner.specs.Rows.{noJudgement, rowsReckoned, verdictOf}
+use Rattle.planner.specs.Rows.{noJudgement, verdictOf}
 use Rattle.planner.specs.declared.PatternRow.{PatternRow}
-use Rattle.planner.specs.declared.PatternRows.{PatternRows}
 use Rattle.planner.specs.declared.VerdictAnswer.{VerdictAnswer}
 use Rattle.planner.specs.declared.Judgement.{Judgement}
 use Rattle.planner.proofs.Answers.{out-refused, out-accepted}
@@ -68,33 +67,32 @@ module _ (P : Numbers) where
   unfolding verdictRefusal
   plan-refuses e h = e ∙ sym (first-some (refusalOf P) _ (λ z. h (e ∙ z)))
 
-  module _ (accepted : refusalOf P ≡ 0) {c : PatternRows} (e : c ≡ rowsReckoned P) where
-    pub pattern-refuses : (c .refusal ≡ 0 → ⊥) → 11 ≡ verdictRefusal P
-    unfolding verdictRefusal rowsReckoned
-    pattern-refuses h = rw (accepted, picked-no (λ (c : PatternRows). c .refusal) _ _ refl (λ z. omega arith) (all (P .patterns) (λ t. rowFits P (1 + t))) c e h)
+  module _ (ok : Accepted P) where
+    pub pattern-refuses : all (P .patterns) (λ t. rowFits P (1 + t)) ≡ false → 11 ≡ verdictRefusal P
+    unfolding verdictRefusal
+    pattern-refuses e = rw (accepted-none ok, e)
 
-    pub none-refuses : c .refusal ≡ 0 → verdictRefusal P ≡ 0
-    unfolding verdictRefusal rowsReckoned
-    none-refuses h = rw (accepted, picked-yes (λ (c : PatternRows). c .refusal) _ _ refl (λ z. omega arith) (all (P .patterns) (λ t. rowFits P (1 + t))) c e h)
-
-  reckoned : PatternRows
-  reckoned = record { refusal = 0; words = table 64 (P .patterns) (λ t. patternWord P (1 + t)) 0; rows = table 64 (P .patterns) (λ t. rowOf P (1 + t)) noPattern }
-
-  rows-are : {c : PatternRows} → c ≡ rowsReckoned P → c .refusal ≡ 0 → c ≡ reckoned
-  unfolding rowsReckoned reckoned
-  rows-are {c} e h = picked-is (λ (c : PatternRows). c .refusal) _ _ refl (λ z. omega arith) (all (P .patterns) (λ t. rowFits P (1 + t))) c e h
+    none-refuses : all (P .patterns) (λ t. rowFits P (1 + t)) ≡ true → verdictRefusal P ≡ 0
+    unfolding verdictRefusal
+    none-refuses e = rw (accepted-none ok, e)
 
   -- ---- the ways out
   pub judge-refused : {number : ℕ} → number ≡ verdictRefusal P → (number ≡ 0 → ⊥) → noJudgement number ≡ judgementOf P
   unfolding judgementOf verdictAnswer rowsOf
   judge-refused e h = ap₂ judgement (out-refused noVerdict _ e h) (out-refused (λ n. replicate 64 noPattern) _ e h)
 
-  pub judged : P .patterns ≤ 64 → {c : PatternRows} {v : VerdictAnswer} → c ≡ rowsReckoned P → c .refusal ≡ 0 → v ≡ verdictOf (P .patterns) (c .words) → verdictRefusal P ≡ 0 →
-      record { verdict = v; rows = c .rows } ≡ judgementOf P
-  unfolding judgementOf verdictAnswer rowsOf shortBits planWord reckoned
-  judged few {c} e h f none =
-      let words = ap (λ (c : PatternRows). c .words) (rows-are e h) in
-      ap₂ judgement (out-accepted noVerdict none (f ∙ verdict-made (P .patterns) (λ t. patternWord P (1 + t)) few words)) (out-accepted (λ n. replicate 64 noPattern) none (ap (λ (c : PatternRows). c .rows) (rows-are e h)))
+  pub judge-made : Accepted P → all (P .patterns) (λ t. rowFits P (1 + t)) ≡ true → {words : List ℕ} {rows : List PatternRow} {v : VerdictAnswer} →
+      words ≡ table 64 (P .patterns) (λ t. patternWord P (1 + t)) 0 → rows ≡ table 64 (P .patterns) (λ t. rowOf P (1 + t)) noPattern → v ≡ verdictOf (P .patterns) words →
+      record { verdict = v; rows = rows } ≡ judgementOf P
+  unfolding judgementOf verdictAnswer rowsOf shortBits planWord
+  judge-made ok fit words-are rows-are e =
+      let none = none-refuses ok fit in
+      ap₂ judgement (out-accepted noVerdict none (e ∙ verdict-made (P .patterns) (λ t. patternWord P (1 + t)) (ok .head .patterns-few) words-are)) (out-accepted (λ n. replicate 64 noPattern) none rows-are)
+
+  -- the verdict of a judgement
+  pub verdict-judged : {j : Judgement} → j ≡ judgementOf P → j .verdict ≡ verdictAnswer P
+  unfolding judgementOf
+  verdict-judged e = ap (λ (j : Judgement). j .verdict) e
 
 -- ---- what a pattern's word says of its fund z and bound b
 module _ (z b : ℤ) where

@@ -1,6 +1,6 @@
 -- What the code makes of a plan on the way to its verdict: a row for each pattern, and of the rows' words the verdict.
 use mathlib.Core.List.{List, []}
-use Prim.Native.Nat.{ℕ, _+_}
+use Prim.Native.Nat.{ℕ}
 use lib.Dec.{eqb}
 use lib.ListN.{getD, replicate}
 use lib.IntN.{ℤ, pos}
@@ -9,13 +9,11 @@ use Rattle.whole.specs.Table.{table}
 use Rattle.reckoning.specs.Reckoning.{fund}
 use Rattle.reckoning.specs.Bound.{h, B}
 use Rattle.reckoning.specs.Arrays.{fundFits}
-use Rattle.plan.specs.Numbers.{Numbers}
 use Rattle.planner.specs.declared.PatternRow.{PatternRow}
-use Rattle.planner.specs.declared.PatternRows.{PatternRows}
 use Rattle.planner.specs.declared.OneRow.{OneRow}
 use Rattle.planner.specs.declared.VerdictAnswer.{VerdictAnswer}
 use Rattle.planner.specs.declared.Judgement.{Judgement}
-use Rattle.planner.specs.Verdict.{short, rowWith, bitsOf, planWordOf, noVerdict, noPattern, rowFits, patternWord, rowOf}
+use Rattle.planner.specs.Verdict.{short, rowWith, bitsOf, planWordOf, noVerdict, noPattern}
 
 -- what a refusal holds
 abbrev pub refusedRow : OneRow
@@ -30,12 +28,6 @@ unfoldable pub rowAnswer : (r : ℕ → ℕ) (i : ℕ → ℤ) (N n : ℕ) (f o 
 rowAnswer r i N n f o a = pick (both (fundFits r i f N) (both (all n (λ j. fundFits r i (a j) N)) (fundFits r i o N)))
     (record { refusal = 0; row = rowWith (fund r i N f) (pos (B (h i N) N)) (table 16 n (λ j. fund r i N (a j)) (pos 0)) (fund r i N o) })
     refusedRow
-
--- the word and the row of every pattern, unless check 11 refuses one
-unfoldable pub rowsReckoned : Numbers → PatternRows
-rowsReckoned P = pick (all (P .patterns) (λ t. rowFits P (1 + t)))
-    (record { refusal = 0; words = table 64 (P .patterns) (λ t. patternWord P (1 + t)) 0; rows = table 64 (P .patterns) (λ t. rowOf P (1 + t)) noPattern })
-    (record { refusal = 11; words = replicate 64 0; rows = replicate 64 noPattern })
 
 -- the row at a place, counted from 0
 abbrev pub rowIn : List PatternRow → (t : ℕ) → PatternRow

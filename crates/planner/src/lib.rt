@@ -12,13 +12,13 @@ ghost use Rattle.whole.specs.Range.{limit, Between, Within};
 ghost use Rattle.whole.specs.Sum.{sum};
 ghost use Rattle.whole.specs.Test.{pick};
 ghost use Rattle.whole.specs.Table.{table};
-ghost use Rattle.reckoning.specs.Arrays.{sharesOf, ratesOf, amountsOf, Years, Rates, Ready};
+ghost use Rattle.reckoning.specs.Arrays.{sharesOf, ratesOf, amountsOf, Years, Ready};
 ghost use Rattle.plan.specs.Numbers.{numbers};
 ghost use Rattle.plan.specs.Refusal.{Accepted};
 ghost use Rattle.planner.specs.Calls.{noForm, callRefusal, fundAnswer, boundAnswer, gammasAnswer, formReckoned, formAnswer};
 ghost use Rattle.planner.specs.Verdict.{short, wordOf, bitsOf, noPattern, planWordOf, verdictAnswer, judgementOf};
 ghost use Rattle.planner.specs.Arrays.{rolloverArray, ratesArray, flowArray, outflowArray, paymentsRows, commonOf, columnOf, flowsIn, Payments, Flows, fundsReckoned, Weighable};
-ghost use Rattle.planner.specs.Rows.{refusedRow, rowAnswer, noJudgement, rowsReckoned, verdictOf};
+ghost use Rattle.planner.specs.Rows.{refusedRow, rowAnswer, noJudgement, verdictOf};
 ghost use Rattle.planner.specs.Demand3.{FundNear, FormNear, VerdictTrue};
 
 pub struct BoundAnswer {
@@ -96,7 +96,8 @@ fn rates_of(plan: Plan, t: usize) -> [i64; 30]
     ensures { λ s. ⌜ s ≡ ratesArray (numbers plan) t ⌝ }
 {
     let at = t - 1;
-    let row = plan.pattern[at];
+    let pattern = plan.pattern;
+    let row = pattern[at];
     let xs = row.rates;
     let years = plan.years;
     widened(xs, years - 1)
@@ -109,9 +110,10 @@ fn payments_of(plan: Plan) -> [[i64; 30]; 16]
 {
     let n = plan.instruments;
     let years = plan.years;
+    let instrument = plan.instrument;
     let mut rows = [[0i64; 30]; 16];
     for j in 0..n {
-        let one = plan.instrument[j];
+        let one = instrument[j];
         let xs = one.payments;
         rows[j] = cut(xs, years);
     }
@@ -153,11 +155,12 @@ fn flow_of(plan: Plan, payments: &[[i64; 30]; 16]) -> [i64; 30]
     let years = plan.years;
     let n = plan.instruments;
     let p = plan.allocation;
+    let o = plan.outflows;
     let mut v = [0i64; 30];
     for k in 0..years {
         let c = column(payments, n, k);
         let z = weighted(c, p, n);
-        v[k] = whole::down(z) - plan.outflows[k];
+        v[k] = whole::down(z) - o[k];
     }
     v
 }
@@ -168,9 +171,10 @@ fn outflow_of(plan: Plan) -> [i64; 30]
     ensures { λ s. ⌜ s ≡ outflowArray (numbers plan) ⌝ }
 {
     let years = plan.years;
+    let o = plan.outflows;
     let mut v = [0i64; 30];
     for k in 0..years {
-        v[k] = 0 - plan.outflows[k];
+        v[k] = 0 - o[k];
     }
     v
 }
@@ -241,25 +245,30 @@ fn no_form(refusal: u8) -> FormAnswer
 }
 
 // K_1 to K_n, Q and the value at the plan's allocation.
-fn form_at(plan: Plan, common: Common, payments: &[[i64; 30]; 16], i: &[i64; 30]) -> FormAnswer
+fn form_at(
+    plan: Plan,
+    outflow: &[i64; 30],
+    payments: &[[i64; 30]; 16],
+    r: &[i64; 30],
+    w: &[i64; 30],
+    i: &[i64; 30],
+) -> FormAnswer
     requires { ⌜ Accepted (numbers plan) ⌝ }
-    requires { ⌜ common ≡ commonOf (numbers plan) ⌝ }
+    requires { ⌜ now outflow ≡ outflowArray (numbers plan) ⌝ }
     requires { ⌜ now payments ≡ paymentsRows (numbers plan) ⌝ }
-    requires { ⌜ Rates (now i) ⌝ }
+    requires { ⌜ now r ≡ rolloverArray (numbers plan) ⌝ }
+    requires { ⌜ Ready (plan .terms) (now r) (now w) (now i) ⌝ }
     ensures { λ s. ⌜ s ≡ formReckoned (numbers plan) (ratesOf (now (i .entry))) ⌝ }
 {
     let n = plan.instruments;
     let years = plan.years;
     let q = plan.terms;
-    let r = common.rollover;
-    let w = common.weights;
-    let c = coefficients_of(payments, &r, &w, i, n, years, q);
+    let c = coefficients_of(payments, r, w, i, n, years, q);
     let no = c.refusal;
     if no != 0 {
         return no_form(11);
     }
-    let o = common.outflow;
-    let d = reckoning::fund(&o, &r, &w, i, years, q);
+    let d = reckoning::fund(outflow, r, w, i, years, q);
     let also = d.refusal;
     if also != 0 {
         return no_form(11);
@@ -347,10 +356,13 @@ pub fn form(plan: Plan, t: usize) -> FormAnswer
     if no != 0 {
         return no_form(no);
     }
-    let payments = payments_of(plan);
-    let common = common_of(plan, &payments);
+    let q = plan.terms;
+    let r = rollover_of(plan);
+    let w = reckoning::weights(r, q);
     let pattern = rates_of(plan, t);
-    form_at(plan, common, &payments, &pattern)
+    let payments = payments_of(plan);
+    let o = outflow_of(plan);
+    form_at(plan, &o, &payments, &r, &w, &pattern)
 }
 
 // The table of gammas of pattern t.
@@ -386,12 +398,6 @@ pub struct PatternRow {
 pub struct OneRow {
     pub refusal: u8,
     pub row: PatternRow,
-}
-
-pub struct PatternRows {
-    pub refusal: u8,
-    pub words: [u8; 64],
-    pub rows: [PatternRow; 64],
 }
 
 // The word of every pattern; the short ones as bits, bit t - 1 for pattern t; the plan's word.
@@ -495,48 +501,6 @@ fn row_at(
     }
 }
 
-// Every pattern in turn, until check 11 refuses one.
-fn rows_of(plan: Plan, common: Common, payments: &[[i64; 30]; 16]) -> PatternRows
-    requires { ⌜ Accepted (numbers plan) ⌝ }
-    requires { ⌜ common ≡ commonOf (numbers plan) ⌝ }
-    requires { ⌜ now payments ≡ paymentsRows (numbers plan) ⌝ }
-    ensures { λ s. ⌜ s ≡ rowsReckoned (numbers plan) ⌝ }
-{
-    let m = plan.patterns;
-    let n = plan.instruments;
-    let years = plan.years;
-    let q = plan.terms;
-    let flow = common.flow;
-    let outflow = common.outflow;
-    let r = common.rollover;
-    let w = common.weights;
-    let none = no_pattern();
-    let mut words = [0u8; 64];
-    let mut rows = [none; 64];
-    for t in 0..m {
-        let pattern = plan.pattern[t];
-        let xs = pattern.rates;
-        let i = widened(xs, years - 1);
-        let c = row_at(&flow, &outflow, payments, &r, &w, &i, n, years, q);
-        let refusal = c.refusal;
-        if refusal != 0 {
-            return PatternRows {
-                refusal: 11,
-                words: [0u8; 64],
-                rows: [none; 64],
-            };
-        }
-        let row = c.row;
-        words[t] = row.word;
-        rows[t] = row;
-    }
-    PatternRows {
-        refusal: 0,
-        words: words,
-        rows: rows,
-    }
-}
-
 fn short_bit(word: u8) -> u64
     ensures { λ s. ⌜ s ≡ pick (eqb word short) 1 0 ⌝ }
 {
@@ -604,6 +568,55 @@ fn no_judgement(refusal: u8) -> Judgement
     }
 }
 
+// Every pattern in turn, until check 11 refuses one, and the verdict that their words make.
+fn judged(plan: Plan, common: Common, payments: &[[i64; 30]; 16]) -> Judgement
+    requires { ⌜ Accepted (numbers plan) ⌝ }
+    requires { ⌜ common ≡ commonOf (numbers plan) ⌝ }
+    requires { ⌜ now payments ≡ paymentsRows (numbers plan) ⌝ }
+    ensures { λ s. ⌜ s ≡ judgementOf (numbers plan) ⌝ }
+{
+    let m = plan.patterns;
+    let n = plan.instruments;
+    let years = plan.years;
+    let q = plan.terms;
+    let pattern = plan.pattern;
+    let flow = common.flow;
+    let outflow = common.outflow;
+    let r = common.rollover;
+    let w = common.weights;
+    let none = no_pattern();
+    let mut words = [0u8; 64];
+    let mut rows = [none; 64];
+    for t in 0..m {
+        let one = pattern[t];
+        let xs = one.rates;
+        let i = widened(xs, years - 1);
+        let c = row_at(&flow, &outflow, payments, &r, &w, &i, n, years, q);
+        let refusal = c.refusal;
+        if refusal != 0 {
+            return no_judgement(11);
+        }
+        let row = c.row;
+        words[t] = row.word;
+        rows[t] = row;
+    }
+    let verdict = verdict_of(words, m);
+    Judgement {
+        verdict: verdict,
+        rows: rows,
+    }
+}
+
+// That of a plan that was already checked: the project's own leaf and no entry, since a reader of a file has made the checks.
+pub fn judge_accepted(plan: Plan) -> Judgement
+    requires { ⌜ Accepted (numbers plan) ⌝ }
+    ensures { λ s. ⌜ s ≡ judgementOf (numbers plan) ⌝ }
+{
+    let payments = payments_of(plan);
+    let common = common_of(plan, &payments);
+    judged(plan, common, &payments)
+}
+
 // The verdict on a plan, with what each of its patterns comes to.
 pub fn judge(plan: Plan) -> Judgement
     ensures { λ s. ⌜ s ≡ judgementOf (numbers plan) ⌝ }
@@ -612,21 +625,7 @@ pub fn judge(plan: Plan) -> Judgement
     if no != 0 {
         return no_judgement(no);
     }
-    let payments = payments_of(plan);
-    let common = common_of(plan, &payments);
-    let c = rows_of(plan, common, &payments);
-    let also = c.refusal;
-    if also != 0 {
-        return no_judgement(11);
-    }
-    let m = plan.patterns;
-    let words = c.words;
-    let verdict = verdict_of(words, m);
-    let rows = c.rows;
-    Judgement {
-        verdict: verdict,
-        rows: rows,
-    }
+    judge_accepted(plan)
 }
 
 // The verdict on a plan.

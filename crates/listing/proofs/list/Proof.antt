@@ -2,7 +2,8 @@
 use native.Mathlib.Omega.{arith}
 use borrow.Author.Needs.{needs}
 use Rattle.little_endian.proofs.LittleEndian.{bytes-lent}
-use Rattle.listing.proofs.File.{text-refused, text-judged, head-read}
+use Rattle.planfile.proofs.Numbers.{accepted-read}
+use Rattle.listing.proofs.File.{text-refused, text-judged}
 use Rattle.listing.proofs.Wrote.{wrote-as, listed}
 use Rattle.listing.proofs.Demands.{demands}
 use Rattle.listing.proofs.list.Statement.{statement}
@@ -21,19 +22,19 @@ returns c =
     let l = listed (omega arith) (search needs) (wrote-as (text-refused _ (r .read .ensures .0) (i .if1 .taken)) (c .put-refused .ensures)) in
     (l .0, (l .1, demands (bytes-lent (r .before .shared-slice-known .given))))
 
-judge-requires : tie.Need-judge-requires
-judge-requires c κs = search needs
+judge-accepted-requires : tie.Need-judge-accepted-requires
+judge-accepted-requires c κs = let s = c .before .before in accepted-read _ (s .before .read .ensures .0) (s .if1 .left)
 
 put-judgement-requires : tie.Need-put-judgement-requires
 put-judgement-requires c κs =
     let s = c .before .before .before in
-    let h = head-read _ (s .before .read .ensures .0) (s .if1 .left) in
+    let h = accepted-read _ (s .before .read .ensures .0) (s .if1 .left) .head in
     (h .patterns-few, (h .instruments-few, search needs))
 
 returns-2 : tie.Need-returns-2
 returns-2 c =
     let s = c .before .before .before .before in
-    let t = text-judged _ (s .before .read .ensures .0) (s .if1 .left) (c .before .judge .ensures) in
+    let t = text-judged _ (s .before .read .ensures .0) (s .if1 .left) (c .before .judge-accepted .ensures) in
     let l = listed (omega arith) (search needs) (wrote-as t (c .put-judgement .ensures)) in
     (l .0, (l .1, demands (bytes-lent (s .before .before .shared-slice-known .given))))
 
@@ -44,6 +45,6 @@ list-spec =
     read-requires
     put-refused-requires
     returns
-    judge-requires
+    judge-accepted-requires
     put-judgement-requires
     returns-2)

@@ -7,18 +7,16 @@ use borrow.Author.Needs.{needs}
 use borrow.Author.Tests.{not-true, not-false}
 use Rattle.whole.specs.Test.{all}
 use Rattle.whole.proofs.Test.{all-none, all-more, all-fails, all-end}
-use Rattle.plan.specs.Numbers.{numbers}
-use Rattle.plan.specs.Refusal.{paymentsFit, paymentsOk}
 use Rattle.plan.specs.declared.Plan.{Plan}
-use Rattle.plan.proofs.Checks.{payments-fit}
+use Rattle.plan.proofs.Checks.{paymentsHeld, payments-ok}
 use Rattle.plan.proofs.payments_ok.Statement.{statement}
 use Rattle.plan.proofs.payments_ok.Tie as tie
 
 abbrev Inv-loop : tie.InvT-loop
-Inv-loop plan n years j₀ j = (j ≤ plan .instruments) × (all j (paymentsFit (numbers plan)) ≡ true)
+Inv-loop n years instrument j₀ j = (j ≤ n) × (all j (paymentsHeld instrument years) ≡ true)
 
 abbrev μ-loop : tie.MeasureT-loop
-μ-loop plan n years j₀ j = plan .instruments - j
+μ-loop n years instrument j₀ j = n - j
 
 loop-holds : tie.Need-loop-holds Inv-loop μ-loop
 loop-holds c = (search needs, all-none _)
@@ -26,8 +24,8 @@ loop-holds c = (search needs, all-none _)
 mul-row : tie.Need-mul-row Inv-loop μ-loop
 mul-row c = omega arith
 
-element-copy-out-row : tie.Need-element-copy-out-row Inv-loop μ-loop
-element-copy-out-row c = omega arith
+array-copy-out-row : tie.Need-array-copy-out-row Inv-loop μ-loop
+array-copy-out-row c = omega arith
 
 amounts-ok-requires : tie.Need-amounts-ok-requires Inv-loop μ-loop
 amounts-ok-requires c κs = omega arith
@@ -40,16 +38,15 @@ module _ (c : tie.After-amounts-ok Inv-loop μ-loop) where
   j = turn .before .loop .j
 
   abbrev plan : Plan
-  plan = turn .before .before .args .t1
+  plan = turn .before .before .before .args .plan
 
-  tested : c .amounts-ok .result ≡ paymentsFit (numbers plan) j
-  tested = c .amounts-ok .ensures ∙ payments-fit plan j (omega arith)
+  tested : c .amounts-ok .result ≡ paymentsHeld (plan .instrument) (plan .years) j
+  tested = c .amounts-ok .ensures
 
 returns : tie.Need-returns Inv-loop μ-loop
-unfolding paymentsOk
 returns c =
     let d = c .before in
-    sym (all-fails _ _ (j d) (omega arith) (sym (tested d) ∙ not-true _ (c .if1 .taken)))
+    sym (all-fails _ _ (j d) (turn d .loop-test .taken) (sym (tested d) ∙ not-true _ (c .if1 .taken))) ∙ payments-ok (plan d)
 
 add-j : tie.Need-add-j Inv-loop μ-loop
 add-j c = omega arith
@@ -63,8 +60,9 @@ loop-again c =
     (omega arith, all-more _ _ (turn d .before .loop .inv .1) (sym (tested d) ∙ not-false _ (c .if1 .left)))
 
 returns-2 : tie.Need-returns-2 Inv-loop μ-loop
-unfolding paymentsOk
-returns-2 c = let i = c .before .loop .inv in sym (all-end _ _ (i .0) (c .loop-test .left) (i .1))
+returns-2 c =
+    let i = c .before .loop .inv in
+    sym (all-end _ _ (i .0) (c .loop-test .left) (i .1)) ∙ payments-ok (c .before .before .before .args .plan)
 
 pub payments-ok-spec : {M : Type 1} → statement M
 payments-ok-spec =
@@ -74,7 +72,7 @@ payments-ok-spec =
     μ-loop
     loop-holds
     mul-row
-    element-copy-out-row
+    array-copy-out-row
     amounts-ok-requires
     returns
     add-j

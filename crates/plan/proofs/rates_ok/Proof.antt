@@ -7,18 +7,16 @@ use borrow.Author.Needs.{needs}
 use borrow.Author.Tests.{not-true, not-false}
 use Rattle.whole.specs.Test.{all}
 use Rattle.whole.proofs.Test.{all-none, all-more, all-fails, all-end}
-use Rattle.plan.specs.Numbers.{numbers}
-use Rattle.plan.specs.Refusal.{ratesFit, ratesOk}
 use Rattle.plan.specs.declared.Plan.{Plan}
-use Rattle.plan.proofs.Checks.{rates-fit}
+use Rattle.plan.proofs.Checks.{ratesHeld, rates-ok}
 use Rattle.plan.proofs.rates_ok.Statement.{statement}
 use Rattle.plan.proofs.rates_ok.Tie as tie
 
 abbrev Inv-loop : tie.InvT-loop
-Inv-loop plan m years t₀ t = (t ≤ plan .patterns) × (all t (ratesFit (numbers plan)) ≡ true)
+Inv-loop m years pattern t₀ t = (t ≤ m) × (all t (ratesHeld pattern years) ≡ true)
 
 abbrev μ-loop : tie.MeasureT-loop
-μ-loop plan m years t₀ t = plan .patterns - t
+μ-loop m years pattern t₀ t = m - t
 
 loop-holds : tie.Need-loop-holds Inv-loop μ-loop
 loop-holds c = (search needs, all-none _)
@@ -26,8 +24,8 @@ loop-holds c = (search needs, all-none _)
 mul-row : tie.Need-mul-row Inv-loop μ-loop
 mul-row c = omega arith
 
-element-copy-out-row : tie.Need-element-copy-out-row Inv-loop μ-loop
-element-copy-out-row c = omega arith
+array-copy-out-row : tie.Need-array-copy-out-row Inv-loop μ-loop
+array-copy-out-row c = omega arith
 
 sub-at-most : tie.Need-sub-at-most Inv-loop μ-loop
 sub-at-most c = omega arith
@@ -43,16 +41,15 @@ module _ (c : tie.After-at-most Inv-loop μ-loop) where
   t = turn .before .loop .t
 
   abbrev plan : Plan
-  plan = turn .before .before .args .t1
+  plan = turn .before .before .before .args .plan
 
-  tested : c .at-most .result ≡ ratesFit (numbers plan) t
-  tested = c .at-most .ensures ∙ rates-fit plan t (omega arith)
+  tested : c .at-most .result ≡ ratesHeld (plan .pattern) (plan .years) t
+  tested = c .at-most .ensures
 
 returns : tie.Need-returns Inv-loop μ-loop
-unfolding ratesOk
 returns c =
     let d = c .before in
-    sym (all-fails _ _ (t d) (omega arith) (sym (tested d) ∙ not-true _ (c .if1 .taken)))
+    sym (all-fails _ _ (t d) (turn d .loop-test .taken) (sym (tested d) ∙ not-true _ (c .if1 .taken))) ∙ rates-ok (plan d)
 
 add-t : tie.Need-add-t Inv-loop μ-loop
 add-t c = omega arith
@@ -66,8 +63,9 @@ loop-again c =
     (omega arith, all-more _ _ (turn d .before .loop .inv .1) (sym (tested d) ∙ not-false _ (c .if1 .left)))
 
 returns-2 : tie.Need-returns-2 Inv-loop μ-loop
-unfolding ratesOk
-returns-2 c = let i = c .before .loop .inv in sym (all-end _ _ (i .0) (c .loop-test .left) (i .1))
+returns-2 c =
+    let i = c .before .loop .inv in
+    sym (all-end _ _ (i .0) (c .loop-test .left) (i .1)) ∙ rates-ok (c .before .before .before .args .plan)
 
 pub rates-ok-spec : {M : Type 1} → statement M
 rates-ok-spec =
@@ -77,7 +75,7 @@ rates-ok-spec =
     μ-loop
     loop-holds
     mul-row
-    element-copy-out-row
+    array-copy-out-row
     sub-at-most
     at-most-requires
     returns

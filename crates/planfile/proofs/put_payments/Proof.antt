@@ -1,31 +1,36 @@
 -- `planfile::put_payments` puts down record after record.
+use mathlib.Core.List.{[]}
 use Prim.Native.Nat.{_+_, _*_, _-_}
 use native.Mathlib.Omega.{arith}
-use Rattle.planfile.specs.Parts.{paymentsBytes}
+use lib.ListN.{getD}
+use Rattle.records.specs.Record.{fileBytes}
+use Rattle.planfile.specs.Format.{recs}
+use Rattle.planfile.specs.Parts.{amountsBytes}
 use Rattle.planfile.proofs.Runs.{length-run}
 use Rattle.planfile.proofs.Wrote.{Putting, room-more, putting-all, recs-start, recs-turn}
 use Rattle.planfile.proofs.put_payments.Statement.{statement}
 use Rattle.planfile.proofs.put_payments.Tie as tie
 
 abbrev Inv-loop : tie.InvT-loop
-Inv-loop b₀ at plan n years place₀ j₀ b place j = Putting (4 + 8 * plan .years) (plan .instruments) (paymentsBytes plan) b₀ at b place j
+Inv-loop b₀ at n years instrument place₀ j₀ b place j =
+    Putting (4 + 8 * years) n (λ k. fileBytes (recs 2 k (λ j. amountsBytes years (getD instrument j (record { payments = [] }) .payments)))) b₀ at b place j
 
 abbrev μ-loop : tie.MeasureT-loop
-μ-loop b₀ at plan n years place₀ j₀ b place j = plan .instruments - j
+μ-loop b₀ at n years instrument place₀ j₀ b place j = n - j
 
 loop-holds : tie.Need-loop-holds Inv-loop μ-loop
-loop-holds c = recs-start 2 _ (λ i. length-run 8 _ _) (c .before .pre .1)
+loop-holds c = recs-start 2 _ (λ i. length-run 8 _ _) (c .before .before .pre .1)
 
 mul-row : tie.Need-mul-row Inv-loop μ-loop
 mul-row c = omega arith
 
-element-copy-out-row : tie.Need-element-copy-out-row Inv-loop μ-loop
-element-copy-out-row c = omega arith
+array-copy-out-row : tie.Need-array-copy-out-row Inv-loop μ-loop
+array-copy-out-row c = omega arith
 
 put-amounts-record-requires : tie.Need-put-amounts-record-requires Inv-loop μ-loop
 put-amounts-record-requires c κs =
     let d = c .before .before .before in
-    (d .before .before .before .pre .0 .years-few, room-more (d .before .loop .inv) (d .loop-test .taken))
+    (d .before .before .before .before .pre .0 .years-few, room-more (d .before .loop .inv) (d .loop-test .taken))
 
 add-j : tie.Need-add-j Inv-loop μ-loop
 add-j c = omega arith
@@ -52,7 +57,7 @@ put-payments-spec =
     μ-loop
     loop-holds
     mul-row
-    element-copy-out-row
+    array-copy-out-row
     put-amounts-record-requires
     add-j
     loop-less

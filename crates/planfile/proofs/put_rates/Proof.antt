@@ -1,26 +1,31 @@
 -- `planfile::put_rates` puts down record after record.
+use mathlib.Core.List.{[]}
 use Prim.Native.Nat.{_+_, _*_, _-_}
 use native.Mathlib.Omega.{arith}
-use Rattle.planfile.specs.Parts.{ratesBytes}
+use lib.ListN.{getD}
+use Rattle.records.specs.Record.{fileBytes}
+use Rattle.planfile.specs.Format.{recs}
+use Rattle.planfile.specs.Parts.{sharesBytes}
 use Rattle.planfile.proofs.Runs.{length-run}
 use Rattle.planfile.proofs.Wrote.{Putting, room-more, putting-all, recs-start, recs-turn}
 use Rattle.planfile.proofs.put_rates.Statement.{statement}
 use Rattle.planfile.proofs.put_rates.Tie as tie
 
 abbrev Inv-loop : tie.InvT-loop
-Inv-loop b₀ at plan m years place₀ t₀ b place t = Putting (4 + 4 * (plan .years - 1)) (plan .patterns) (ratesBytes plan) b₀ at b place t
+Inv-loop b₀ at m years pattern place₀ t₀ b place t =
+    Putting (4 + 4 * (years - 1)) m (λ k. fileBytes (recs 5 k (λ t. sharesBytes (years - 1) (getD pattern t (record { rates = [] }) .rates)))) b₀ at b place t
 
 abbrev μ-loop : tie.MeasureT-loop
-μ-loop b₀ at plan m years place₀ t₀ b place t = plan .patterns - t
+μ-loop b₀ at m years pattern place₀ t₀ b place t = m - t
 
 loop-holds : tie.Need-loop-holds Inv-loop μ-loop
-loop-holds c = recs-start 5 _ (λ i. length-run 4 _ _) (c .before .pre .1)
+loop-holds c = recs-start 5 _ (λ i. length-run 4 _ _) (c .before .before .pre .1)
 
 mul-row : tie.Need-mul-row Inv-loop μ-loop
 mul-row c = omega arith
 
-element-copy-out-row : tie.Need-element-copy-out-row Inv-loop μ-loop
-element-copy-out-row c = omega arith
+array-copy-out-row : tie.Need-array-copy-out-row Inv-loop μ-loop
+array-copy-out-row c = omega arith
 
 sub-put-pattern : tie.Need-sub-put-pattern Inv-loop μ-loop
 sub-put-pattern c = omega arith
@@ -28,7 +33,7 @@ sub-put-pattern c = omega arith
 put-pattern-requires : tie.Need-put-pattern-requires Inv-loop μ-loop
 put-pattern-requires c κs =
     let d = c .before .before in
-    (omega (arith, d .before .before .before .pre .0 .years-few), room-more (d .before .loop .inv) (d .loop-test .taken))
+    (omega (arith, d .before .before .before .before .pre .0 .years-few), room-more (d .before .loop .inv) (d .loop-test .taken))
 
 add-t : tie.Need-add-t Inv-loop μ-loop
 add-t c = omega arith
@@ -55,7 +60,7 @@ put-rates-spec =
     μ-loop
     loop-holds
     mul-row
-    element-copy-out-row
+    array-copy-out-row
     sub-put-pattern
     put-pattern-requires
     add-t

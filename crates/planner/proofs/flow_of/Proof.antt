@@ -1,8 +1,9 @@
 -- `planner::flow_of` fills in the flow of each year (ArrayLoops, `Filling`).
-use mathlib.Core.Path.{_≡_}
+use mathlib.Core.Path.{_≡_, refl, ap, _∙_}
 use Prim.Native.Nat.{ℕ, _+_, _-_}
 use native.Mathlib.Omega.{arith}
-use lib.IntN.{pos, _-ℤ_}
+use lib.ListN.{getD}
+use lib.IntN.{ℤ, pos, _-ℤ_}
 use mir.Syntax.{w64}
 use mir.Val.{SFits}
 use Rattle.whole.specs.Range.{million}
@@ -12,27 +13,26 @@ use Rattle.reckoning.specs.Reckoning.{paid}
 use Rattle.plan.specs.Numbers.{outflowAt, numbers}
 use Rattle.plan.specs.declared.Plan.{Plan}
 use Rattle.plan.proofs.Numbers.{outflow-is}
-use Rattle.planner.specs.Calls.{flowOf}
-use Rattle.planner.specs.Arrays.{flowArray}
+use Rattle.planner.specs.Arrays.{flowArray, columnOf}
 use Rattle.planner.proofs.Held.{paid-within}
-use Rattle.planner.proofs.ArrayLoops.{Filling, fill-start, fill-turn, fill-end, column-weighable, column-paid, flow-is, flow-fits}
+use Rattle.planner.proofs.ArrayLoops.{Filling, fill-start, fill-turn, fill-as, weighedBy, column-weighable, column-paid, flow-is, flow-fits}
 use Rattle.planner.proofs.flow_of.Statement.{statement}
 use Rattle.planner.proofs.flow_of.Tie as tie
 
 abbrev Inv-loop : tie.InvT-loop
-Inv-loop payments plan years n p v₀ k₀ v k = Filling 30 (plan .years) (λ k. flowOf (numbers plan) (1 + k)) (pos 0) v k
+Inv-loop payments years n p o v₀ k₀ v k = Filling 30 years (λ k. floor (weighedBy p n (columnOf n payments k)) million -ℤ getD o k (pos 0)) (pos 0) v k
 
 abbrev μ-loop : tie.MeasureT-loop
-μ-loop payments plan years n p v₀ k₀ v k = plan .years - k
+μ-loop payments years n p o v₀ k₀ v k = years - k
 
 loop-holds : tie.Need-loop-holds Inv-loop μ-loop
 loop-holds c = fill-start
 
 column-requires : tie.Need-column-requires Inv-loop μ-loop
-column-requires c κs = let h = c .before .before .before .pre .0 .head in (h .instruments-few, omega (arith, h .years-few))
+column-requires c κs = let h = c .before .before .before .before .pre .0 .head in (h .instruments-few, omega (arith, h .years-few))
 
 weighted-requires : tie.Need-weighted-requires Inv-loop μ-loop
-weighted-requires c κs = let s = c .before .before .before .before .pre in column-weighable _ (s .0) (s .1) (c .before .loop-test .taken) (c .column .ensures)
+weighted-requires c κs = let s = c .before .before .before .before .before .pre in column-weighable _ (s .0) (s .1) (c .before .loop-test .taken) (c .column .ensures)
 
 -- what the allocation pays in a year
 module _ (c : tie.After-weighted Inv-loop μ-loop) where
@@ -40,10 +40,10 @@ module _ (c : tie.After-weighted Inv-loop μ-loop) where
   turn = c .before .before
 
   abbrev start : tie.Start Inv-loop μ-loop
-  start = turn .before .before .before
+  start = turn .before .before .before .before
 
   abbrev plan : Plan
-  plan = start .args .t1
+  plan = start .args .plan
 
   abbrev k : ℕ
   k = turn .before .loop .k
@@ -60,8 +60,8 @@ down-requires c κs = simp (back, paid-fits c) (rw (paid-is c) (within-more (ome
 mul-v : tie.Need-mul-v Inv-loop μ-loop
 mul-v c = omega arith
 
-element-copy-out-v : tie.Need-element-copy-out-v Inv-loop μ-loop
-element-copy-out-v c = omega arith
+array-copy-out-v : tie.Need-array-copy-out-v Inv-loop μ-loop
+array-copy-out-v c = omega arith
 
 -- the flow of that year
 module _ (c : tie.After-v Inv-loop μ-loop) where
@@ -80,8 +80,10 @@ module _ (c : tie.After-v Inv-loop μ-loop) where
   o-fits : SFits w64 (outflowAt (plan w) (k w))
   o-fits = ok64 (outflowAt (plan w) (k w)) (c .v .given)
 
-  year-is : c .before .down .result -ℤ outflowAt (plan w) (k w) ≡ flowOf (numbers (plan w)) (1 + k w)
-  year-is = flow-is (start w .pre .0) outflow (paid-is w) z-is
+  year-is : c .before .down .result -ℤ outflowAt (plan w) (k w) ≡ floor (weighedBy (plan w .allocation) (plan w .instruments) (columnOf (plan w .instruments) (start w .args .payments .now) (k w))) million -ℤ outflowAt (plan w) (k w)
+  year-is =
+      ap (λ (z : ℤ). z -ℤ outflowAt (plan w) (k w))
+      (z-is ∙ ap (λ (s : ℤ). floor s million) (w .weighted .ensures ∙ ap (weighedBy (plan w .allocation) (plan w .instruments)) (w .before .column .ensures)))
 
   year-fits : SFits w64 (c .before .down .result -ℤ outflowAt (plan w) (k w))
   year-fits = flow-fits (start w .pre .0) outflow (paid-is w) z-is
@@ -108,7 +110,9 @@ loop-again c =
 
 returns : tie.Need-returns Inv-loop μ-loop
 unfolding flowArray
-returns c = fill-end (c .loop-test .left) (c .before .loop .inv)
+returns c =
+    let s = c .before .before .before .before in
+    fill-as (c .loop-test .left) (c .before .loop .inv) (λ k l. flow-is (s .pre .0) (outflow-is (s .args .plan) k l) (column-paid (s .args .plan) (s .pre .0) (s .pre .1) l refl refl) refl)
 
 pub flow-of-spec : {M : Type 1} → statement M
 flow-of-spec =
@@ -121,7 +125,7 @@ flow-of-spec =
     weighted-requires
     down-requires
     mul-v
-    element-copy-out-v
+    array-copy-out-v
     sub-v
     mul-v-2
     array-set-from-v

@@ -11,40 +11,31 @@ use Rattle.reckoning.specs.Bound.{value}
 use Rattle.reckoning.specs.Arrays.{ratesOf, fundAnswer}
 use Rattle.plan.specs.Numbers.{Numbers, numbers}
 use Rattle.planner.specs.Arrays.{Weighable}
-use Rattle.planner.proofs.Held.{years}
+use Rattle.planner.proofs.Held.{years, outflow-amounts}
 use Rattle.planner.proofs.Weighing.{weighted-within}
 use Rattle.planner.proofs.FormLaws.{coefficientsOf, coefficients-refused, constant-refused, constant-of, form-made, weighable, value-is, value-fits}
-use Rattle.planner.proofs.Prepared.{common-ready, common-flows, coefficients-is, constant-is}
+use Rattle.planner.proofs.Prepared.{payments-taken, coefficients-is, constant-is}
 use Rattle.planner.proofs.form_at.Statement.{statement}
 use Rattle.planner.proofs.form_at.Tie as tie
 
--- before the coefficients are reckoned
-module _ (c : tie.After-w2) where
-  abbrev start : tie.Start
-  start = c .before .before .before .before
-
-  abbrev P : Numbers
-  P = numbers (start .args .plan)
+abbrev P : tie.Start → Numbers
+P s = numbers (s .args .plan)
 
 coefficients-of-requires : tie.Need-coefficients-of-requires
-coefficients-of-requires c κs =
-    let s = start c .pre in
-    (common-ready _ (s .0) (s .1 .0) (s .1 .1 .0) (s .1 .1 .1), (common-flows _ (s .0) (s .1 .0) (s .1 .1 .0) .payments, years _ (s .0)))
+coefficients-of-requires c κs = let s = c .pre .1 .1 in (s .1 .1, (payments-taken _ (c .pre .0) (s .0), years _ (c .pre .0)))
 
 no-form-requires : tie.Need-no-form-requires
 no-form-requires c κs = search needs
 
 -- the coefficients
-coefficients-are : (c : tie.After-coefficients-of) → c .coefficients-of .result ≡ coefficientsOf (P (c .before)) (ratesOf (start (c .before) .args .i .now))
-coefficients-are c = let s = start (c .before) .pre in c .coefficients-of .ensures ∙ coefficients-is _ (s .0) (s .1 .0) (s .1 .1 .0) _
+coefficients-are : (c : tie.After-coefficients-of) → c .coefficients-of .result ≡ coefficientsOf (P (c .before)) (ratesOf (c .before .args .i .now))
+coefficients-are c = let s = c .before .pre in c .coefficients-of .ensures ∙ coefficients-is _ (s .0) (s .1 .1 .1 .0) (s .1 .1 .0) _
 
 returns : tie.Need-returns
 returns c = let k = c .before .before in c .no-form .ensures ∙ coefficients-refused _ _ (coefficients-are k) (c .before .if1 .taken)
 
 fund-requires : tie.Need-fund-requires
-fund-requires c κs =
-    let s = start (c .before .before .before .before .before .before) .pre in
-    (common-ready _ (s .0) (s .1 .0) (s .1 .1 .0) (s .1 .1 .1), (common-flows _ (s .0) (s .1 .0) (s .1 .1 .0) .outflow-amounts, years _ (s .0)))
+fund-requires c κs = let s = c .before .before .pre in (s .1 .1 .1 .1, (rw (s .1 .0) (outflow-amounts _ (s .0)), years _ (s .0)))
 
 no-form-requires-2 : tie.Need-no-form-requires-2
 no-form-requires-2 c κs = search needs
@@ -52,19 +43,19 @@ no-form-requires-2 c κs = search needs
 -- the constant, and coefficients that can be weighed
 module _ (c : tie.After-fund) where
   abbrev given : tie.Else1
-  given = c .before .before .before .before .before
+  given = c .before
 
   abbrev formed : tie.After-coefficients-of
   formed = given .before
 
-  abbrev ready : tie.After-w2
-  ready = formed .before
+  abbrev start : tie.Start
+  start = formed .before
 
-  constant : c .fund .result ≡ fundAnswer (P ready .r) (ratesOf (start ready .args .i .now)) (λ k. negℤ (P ready .o k)) (P ready .years)
-  constant = c .fund .ensures .0 ∙ constant-is _ (start ready .pre .0) (start ready .pre .1 .0) (start ready .pre .1 .1 .0) _
+  constant : c .fund .result ≡ fundAnswer (P start .r) (ratesOf (start .args .i .now)) (λ k. negℤ (P start .o k)) (P start .years)
+  constant = let s = start .pre in c .fund .ensures .0 ∙ constant-is _ (s .0) (s .1 .1 .1 .0) (s .1 .0) _
 
-  weighed : Weighable (P ready .instruments) (formed .coefficients-of .result .values) (start ready .args .plan .allocation)
-  weighed = weighable _ (start ready .pre .0) _ (coefficients-are formed) (given .if1 .left)
+  weighed : Weighable (P start .instruments) (formed .coefficients-of .result .values) (start .args .plan .allocation)
+  weighed = weighable _ (start .pre .0) _ (coefficients-are formed) (given .if1 .left)
 
 returns-2 : tie.Need-returns-2
 returns-2 c = c .no-form2 .ensures ∙ constant-refused _ _ (constant (c .before .before)) (c .before .if2 .taken)
@@ -94,13 +85,13 @@ module _ (c : tie.After-down) where
   sum-fits : SFits w64 (c .down .result +ℤ o .fund .result .fund)
   sum-fits = value-fits down-is (weighted-within (weighed o) (c .before .before .weighted .ensures)) (o .fund .ensures .1)
 
-  sum-is : c .down .result +ℤ o .fund .result .fund ≡ value (P (ready o) .a) (P (ready o) .o) (P (ready o) .r) (ratesOf (start (ready o) .args .i .now)) (P (ready o) .years) (P (ready o) .instruments) (P (ready o) .p)
+  sum-is : c .down .result +ℤ o .fund .result .fund ≡ value (P (start o) .a) (P (start o) .o) (P (start o) .r) (ratesOf (start o .args .i .now)) (P (start o) .years) (P (start o) .instruments) (P (start o) .p)
   sum-is =
-      let q = constant-of (P (ready o)) _ (constant o) (c .before .before .before .before .before .if2 .left) in
-      value-is _ (start (ready o) .pre .0) _ (coefficients-are (formed o)) (given o .if1 .left) down-is (c .before .before .weighted .ensures) q
+      let q = constant-of (P (start o)) _ (constant o) (c .before .before .before .before .before .if2 .left) in
+      value-is _ (start o .pre .0) _ (coefficients-are (formed o)) (given o .if1 .left) down-is (c .before .before .weighted .ensures) q
 
-add-t26 : tie.Need-add-t26
-add-t26 c = simp (back, down-fits c, constant-fits c) (sum-fits c)
+add-t20 : tie.Need-add-t20
+add-t20 c = simp (back, down-fits c, constant-fits c) (sum-fits c)
 
 returns-3 : tie.Need-returns-3
 returns-3 c =
@@ -119,5 +110,5 @@ form-at-spec =
     returns-2
     weighted-requires
     down-requires
-    add-t26
+    add-t20
     returns-3)

@@ -1,23 +1,25 @@
 -- `planner::outflow_of` fills in each outflow with the other sign (ArrayLoops, `Filling`).
-use Prim.Native.Nat.{ℕ, _+_, _-_}
+use mathlib.Core.Path.{refl}
+use Prim.Native.Nat.{ℕ, _-_}
 use native.Mathlib.Omega.{arith}
-use lib.IntN.{pos, negℤ, _-ℤ_}
+use lib.ListN.{getD}
+use lib.IntN.{pos, _-ℤ_}
 use mir.Syntax.{w64}
 use mir.Val.{SFits}
 use Rattle.whole.proofs.Range.{back, ok64}
-use Rattle.plan.specs.Numbers.{outflowAt, numbers}
+use Rattle.plan.specs.Numbers.{outflowAt}
 use Rattle.plan.specs.declared.Plan.{Plan}
 use Rattle.plan.proofs.Numbers.{outflow-is}
 use Rattle.planner.specs.Arrays.{outflowArray}
-use Rattle.planner.proofs.ArrayLoops.{Filling, fill-start, fill-turn, fill-end, opposite-is, opposite-fits}
+use Rattle.planner.proofs.ArrayLoops.{Filling, fill-start, fill-turn, fill-as, opposite-is, opposite-fits}
 use Rattle.planner.proofs.outflow_of.Statement.{statement}
 use Rattle.planner.proofs.outflow_of.Tie as tie
 
 abbrev Inv-loop : tie.InvT-loop
-Inv-loop plan years v₀ k₀ v k = Filling 30 (plan .years) (λ k. negℤ (numbers plan .o (1 + k))) (pos 0) v k
+Inv-loop years o v₀ k₀ v k = Filling 30 years (λ k. pos 0 -ℤ getD o k (pos 0)) (pos 0) v k
 
 abbrev μ-loop : tie.MeasureT-loop
-μ-loop plan years v₀ k₀ v k = plan .years - k
+μ-loop years o v₀ k₀ v k = years - k
 
 loop-holds : tie.Need-loop-holds Inv-loop μ-loop
 loop-holds c = fill-start
@@ -25,16 +27,16 @@ loop-holds c = fill-start
 mul-v : tie.Need-mul-v Inv-loop μ-loop
 mul-v c = omega arith
 
-element-copy-out-v : tie.Need-element-copy-out-v Inv-loop μ-loop
-element-copy-out-v c = omega arith
+array-copy-out-v : tie.Need-array-copy-out-v Inv-loop μ-loop
+array-copy-out-v c = omega arith
 
 -- the outflow of a year
 module _ (c : tie.After-v Inv-loop μ-loop) where
   abbrev start : tie.Start Inv-loop μ-loop
-  start = c .before .before .before
+  start = c .before .before .before .before
 
   abbrev plan : Plan
-  plan = start .args .t1
+  plan = start .args .plan
 
   abbrev k : ℕ
   k = c .before .before .loop .k
@@ -63,11 +65,13 @@ loop-less c = omega arith
 loop-again : tie.Need-loop-again Inv-loop μ-loop
 loop-again c =
     simp (back, o-fits c, year-fits c)
-    (fill-turn (start c .pre .head .years-few) (c .before .loop-test .taken) (c .before .before .loop .inv) (opposite-is (start c .pre) (outflow-is (plan c) (k c) (c .before .loop-test .taken))))
+    (fill-turn (start c .pre .head .years-few) (c .before .loop-test .taken) (c .before .before .loop .inv) refl)
 
 returns : tie.Need-returns Inv-loop μ-loop
 unfolding outflowArray
-returns c = fill-end (c .loop-test .left) (c .before .loop .inv)
+returns c =
+    let s = c .before .before .before in
+    fill-as (c .loop-test .left) (c .before .loop .inv) (λ k l. opposite-is (s .pre) (outflow-is (s .args .plan) k l))
 
 pub outflow-of-spec : {M : Type 1} → statement M
 outflow-of-spec =
@@ -77,7 +81,7 @@ outflow-of-spec =
     μ-loop
     loop-holds
     mul-v
-    element-copy-out-v
+    array-copy-out-v
     sub-v
     mul-v-2
     array-set-from-v

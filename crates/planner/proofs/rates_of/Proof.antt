@@ -14,8 +14,8 @@ sub-at c = search needs
 mul-row : tie.Need-mul-row
 mul-row c = search needs
 
-element-copy-out-row : tie.Need-element-copy-out-row
-element-copy-out-row c = search needs
+array-copy-out-row : tie.Need-array-copy-out-row
+array-copy-out-row c = search needs
 
 sub-widened : tie.Need-sub-widened
 sub-widened c = search needs
@@ -25,11 +25,11 @@ widened-requires c κs = search needs
 
 returns : tie.Need-returns
 returns c =
-    let s = c .before .before .before in
+    let s = c .before .before .before .before in
     let t = s .args .t in
     let e : 1 + (t - 1) ≡ t = omega arith in
-    c .widened .ensures ∙ rates-array (s .args .t1) (s .pre .0) (t - 1) (omega arith) ∙ ap (ratesArray _) e
+    c .widened .ensures ∙ rates-array (s .args .plan) (s .pre .0) (t - 1) (omega arith) ∙ ap (ratesArray _) e
 
 pub rates-of-spec : {M : Type 1} → statement M
 rates-of-spec =
-    tie.close (tie.spec sub-at mul-row element-copy-out-row sub-widened widened-requires returns)
+    tie.close (tie.spec sub-at mul-row array-copy-out-row sub-widened widened-requires returns)
