@@ -2,8 +2,9 @@
  *
  * Link target/staticlib/libbecketgrape.a, which `rt staticlib becketgrape` builds. Every function is proved against the contract
  * that stands with it in crates/becketgrape/src/lib.rt. It asks of the caller only what C's pointers must be: each is to as many
- * elements as its declaration or the length beside it says, a buffer that is written overlaps no other, and a file of no bytes has
- * a pointer that is not null. There is no state and no allocation. A call needs at most PLANNER_STACK_BYTES of stack.
+ * elements as its declaration or the length beside it says, a buffer that is written overlaps no other, and none is null, also
+ * where the length is 0. There is no state and no allocation: calls may be made on any threads at once, on buffers of their own. A
+ * call needs at most PLANNER_STACK_BYTES of stack.
  *
  * A plan file goes in as bytes (any bytes: what is no plan file is refused), and the answer comes back in lent buffers. Each call
  * answers a refusal: PLANNER_ACCEPTED, or the number of the first check that fails. On a refusal every number of the answer is 0;
