@@ -2,8 +2,9 @@
  *
  * Link target/staticlib/libbecketgrape.a, which `rt staticlib becketgrape` builds. Every function is proved against the contract
  * that stands with it in crates/becketgrape/src/lib.rt. It asks of the caller only what C's pointers must be: each is to as many
- * elements as its declaration or the length beside it says, a buffer that is written overlaps no other, and a file of no bytes has
- * a pointer that is not null. There is no state and no allocation.
+ * elements as its declaration or the length beside it says, a buffer that is written overlaps no other, and none is null, also
+ * where the length is 0. There is no state and no allocation: calls may be made on any threads at once, on buffers of their own. A
+ * call needs at most PLANNER_STACK_BYTES of stack.
  *
  * A plan file goes in as bytes (any bytes: what is no plan file is refused), and the answer comes back in lent buffers. Each call
  * answers a refusal: PLANNER_ACCEPTED, or the number of the first check that fails. On a refusal every number of the answer is 0;
@@ -29,6 +30,10 @@ extern "C" {
 #define PLANNER_PATTERNS 64
 #define PLANNER_FILE_BYTES 16384
 #define PLANNER_LISTING_BYTES 32768
+
+/* The stack that a thread needs for any call here, its own beginnings, some 4 KB, included; what the caller's frames and signal
+ * handlers use comes on top. It is measured, and tested on the largest plan (tests/stack), and not proved. */
+#define PLANNER_STACK_BYTES 98304
 
 /* What a call answers, by number: the checks in their order. */
 enum planner_refusal {
