@@ -607,7 +607,7 @@ fn judged(plan: Plan, common: Common, payments: &[[i64; 30]; 16]) -> Judgement
     }
 }
 
-// That of a plan that was already checked: the project's own leaf and no entry, since a reader of a file has made the checks.
+// The judgement of a plan that was already checked: the project's own leaf and no entry; a file's reader has made the checks.
 pub fn judge_accepted(plan: Plan) -> Judgement
     requires { ⌜ Accepted (numbers plan) ⌝ }
     ensures { λ s. ⌜ s ≡ judgementOf (numbers plan) ⌝ }
