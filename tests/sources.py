@@ -1,4 +1,4 @@
-"""What tests/entries reads of the sources: functions with their contracts, must-fail edits, and what an .antt file declares.
+"""What tests/entries and tests/rules read of the sources: functions with their contracts, must-fail edits, and what an .antt file declares.
 
 Nothing here knows the project; every reader takes a text and answers what stands in it, with the lines where it stands.
 """
@@ -154,8 +154,9 @@ def changed(edit, file, text):
 
 # ---- antt
 
-# What a file declares: `record`, `law` (a public name and its type) or `definition` (what a name is said to be), with the text that
-# tests/claims.txt has of it, its lines, and for a record the lines of each field.
+# What a file declares: `record`, `law` (a public name that is proved, and its type), `type` (that of a public name that is defined)
+# or `definition` (what a name is said to be), with the text that tests/claims.txt has of it, its lines, and for a record the lines of
+# each field.
 Declaration = collections.namedtuple("Declaration", "kind name says first last fields")
 WORDS = ("pub", "abbrev", "unfoldable")
 
@@ -222,7 +223,8 @@ def declared(lines, given):
         elif words[1:2] == [":"]:
             named.add(words[0])
             if "pub" in front:
-                yield Declaration("law", words[0], squeezed(f"{words[0]} {given} {text[len(words[0]):]}"), first, last, [])
+                kind = "law" if front == ["pub"] else "type"
+                yield Declaration(kind, words[0], squeezed(f"{words[0]} {given} {text[len(words[0]):]}"), first, last, [])
         elif words[0] in named and "=" in words:
             yield Declaration("definition", words[0], text, first, last, [])
 
