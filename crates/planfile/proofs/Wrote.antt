@@ -124,7 +124,7 @@ module _ (plan : Plan) where
   after-5 = allocationBytes plan
 
   abbrev pub after-4 : List ℕ
-  after-4 = ratesBytes plan (plan .patterns) ++ after-5
+  after-4 = ratesBytes plan ++ after-5
 
   abbrev pub after-3 : List ℕ
   after-3 = rolloverBytes plan ++ after-4
@@ -133,7 +133,7 @@ module _ (plan : Plan) where
   after-2 = outflowsBytes plan ++ after-3
 
   abbrev pub after-1 : List ℕ
-  after-1 = paymentsBytes plan (plan .instruments) ++ after-2
+  after-1 = paymentsBytes plan ++ after-2
 
   abbrev pub after-0 : List ℕ
   after-0 = headBytes plan ++ after-1

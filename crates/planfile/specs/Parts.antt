@@ -7,6 +7,8 @@ use lib.ListN.{length, getD}
 use lib.Seq.{sets}
 use Rattle.little_endian.specs.TwosComplement.{unsignedOf}
 use Rattle.records.specs.Record.{recordBytes, fileBytes}
+use Rattle.plan.specs.declared.Instrument.{Instrument}
+use Rattle.plan.specs.declared.Pattern.{Pattern}
 use Rattle.plan.specs.declared.Plan.{Plan}
 use Rattle.planfile.specs.Format.{run, rec, recs}
 
@@ -26,13 +28,20 @@ amountsBytes n xs = run 8 n (λ k. unsignedOf 8 (getD xs k (pos 0)))
 abbrev pub sharesBytes : (n : ℕ) → List ℕ → List ℕ
 sharesBytes n xs = run 4 n (λ k. getD xs k 0)
 
--- the bytes of each kind: 1, 2 for the first k instruments, 3, 4, 5 for the first k patterns, 6
+-- the records of the first k instruments of an array, and of the first k patterns
+abbrev pub instrumentsBytes : (years : ℕ) → List Instrument → (k : ℕ) → List ℕ
+instrumentsBytes years rows k = fileBytes (recs 2 k (λ j. amountsBytes years (getD rows j (record { payments = [] }) .payments)))
+
+abbrev pub patternsBytes : (years : ℕ) → List Pattern → (k : ℕ) → List ℕ
+patternsBytes years rows k = fileBytes (recs 5 k (λ t. sharesBytes (years - 1) (getD rows t (record { rates = [] }) .rates)))
+
+-- the bytes of a plan, kind by kind
 module _ (plan : Plan) where
   abbrev pub headBytes : List ℕ
   headBytes = recordBytes (rec 1 (plan .years ∷ plan .instruments ∷ plan .terms ∷ plan .patterns ∷ []))
 
-  abbrev pub paymentsBytes : (k : ℕ) → List ℕ
-  paymentsBytes k = fileBytes (recs 2 k (λ j. amountsBytes (plan .years) (getD (plan .instrument) j (record { payments = [] }) .payments)))
+  abbrev pub paymentsBytes : List ℕ
+  paymentsBytes = instrumentsBytes (plan .years) (plan .instrument) (plan .instruments)
 
   abbrev pub outflowsBytes : List ℕ
   outflowsBytes = recordBytes (rec 3 (amountsBytes (plan .years) (plan .outflows)))
@@ -40,8 +49,8 @@ module _ (plan : Plan) where
   abbrev pub rolloverBytes : List ℕ
   rolloverBytes = recordBytes (rec 4 (sharesBytes (plan .terms) (plan .rollover)))
 
-  abbrev pub ratesBytes : (k : ℕ) → List ℕ
-  ratesBytes k = fileBytes (recs 5 k (λ t. sharesBytes (plan .years - 1) (getD (plan .pattern) t (record { rates = [] }) .rates)))
+  abbrev pub ratesBytes : List ℕ
+  ratesBytes = patternsBytes (plan .years) (plan .pattern) (plan .patterns)
 
   abbrev pub allocationBytes : List ℕ
   allocationBytes = recordBytes (rec 6 (sharesBytes (plan .instruments) (plan .allocation)))

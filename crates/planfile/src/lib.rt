@@ -505,8 +505,8 @@ fn put_head(b: &mut [u8], plan: Plan) -> usize
 // Kind 2, n times: the payments of each instrument. The place after them.
 fn put_payments(b: &mut [u8], at: usize, plan: Plan) -> usize
     requires { ⌜ HeadTaken (numbers plan) ⌝ }
-    requires { ⌜ Room (now b) at (paymentsBytes plan (plan .instruments)) ⌝ }
-    ensures { λ r. ⌜ Wrote (now (b .entry)) (now (b .exit)) at (paymentsBytes plan (plan .instruments)) r ⌝ }
+    requires { ⌜ Room (now b) at (paymentsBytes plan) ⌝ }
+    ensures { λ r. ⌜ Wrote (now (b .entry)) (now (b .exit)) at (paymentsBytes plan) r ⌝ }
 {
     let n = plan.instruments;
     let years = plan.years;
@@ -553,8 +553,8 @@ fn put_pattern(b: &mut [u8], at: usize, row: Pattern, n: usize) -> usize
 // Kind 5, m times: the rates of each pattern. The place after them.
 fn put_rates(b: &mut [u8], at: usize, plan: Plan) -> usize
     requires { ⌜ HeadTaken (numbers plan) ⌝ }
-    requires { ⌜ Room (now b) at (ratesBytes plan (plan .patterns)) ⌝ }
-    ensures { λ r. ⌜ Wrote (now (b .entry)) (now (b .exit)) at (ratesBytes plan (plan .patterns)) r ⌝ }
+    requires { ⌜ Room (now b) at (ratesBytes plan) ⌝ }
+    ensures { λ r. ⌜ Wrote (now (b .entry)) (now (b .exit)) at (ratesBytes plan) r ⌝ }
 {
     let m = plan.patterns;
     let years = plan.years;

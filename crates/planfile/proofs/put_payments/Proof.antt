@@ -1,11 +1,7 @@
 -- `planfile::put_payments` puts down record after record.
-use mathlib.Core.List.{[]}
 use Prim.Native.Nat.{_+_, _*_, _-_}
 use native.Mathlib.Omega.{arith}
-use lib.ListN.{getD}
-use Rattle.records.specs.Record.{fileBytes}
-use Rattle.planfile.specs.Format.{recs}
-use Rattle.planfile.specs.Parts.{amountsBytes}
+use Rattle.planfile.specs.Parts.{instrumentsBytes}
 use Rattle.planfile.proofs.Runs.{length-run}
 use Rattle.planfile.proofs.Wrote.{Putting, room-more, putting-all, recs-start, recs-turn}
 use Rattle.planfile.proofs.put_payments.Statement.{statement}
@@ -13,7 +9,7 @@ use Rattle.planfile.proofs.put_payments.Tie as tie
 
 abbrev Inv-loop : tie.InvT-loop
 Inv-loop b₀ at n years instrument place₀ j₀ b place j =
-    Putting (4 + 8 * years) n (λ k. fileBytes (recs 2 k (λ j. amountsBytes years (getD instrument j (record { payments = [] }) .payments)))) b₀ at b place j
+    Putting (4 + 8 * years) n (instrumentsBytes years instrument) b₀ at b place j
 
 abbrev μ-loop : tie.MeasureT-loop
 μ-loop b₀ at n years instrument place₀ j₀ b place j = n - j

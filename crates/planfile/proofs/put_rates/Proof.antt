@@ -1,11 +1,7 @@
 -- `planfile::put_rates` puts down record after record.
-use mathlib.Core.List.{[]}
 use Prim.Native.Nat.{_+_, _*_, _-_}
 use native.Mathlib.Omega.{arith}
-use lib.ListN.{getD}
-use Rattle.records.specs.Record.{fileBytes}
-use Rattle.planfile.specs.Format.{recs}
-use Rattle.planfile.specs.Parts.{sharesBytes}
+use Rattle.planfile.specs.Parts.{patternsBytes}
 use Rattle.planfile.proofs.Runs.{length-run}
 use Rattle.planfile.proofs.Wrote.{Putting, room-more, putting-all, recs-start, recs-turn}
 use Rattle.planfile.proofs.put_rates.Statement.{statement}
@@ -13,7 +9,7 @@ use Rattle.planfile.proofs.put_rates.Tie as tie
 
 abbrev Inv-loop : tie.InvT-loop
 Inv-loop b₀ at m years pattern place₀ t₀ b place t =
-    Putting (4 + 4 * (years - 1)) m (λ k. fileBytes (recs 5 k (λ t. sharesBytes (years - 1) (getD pattern t (record { rates = [] }) .rates)))) b₀ at b place t
+    Putting (4 + 4 * (years - 1)) m (patternsBytes years pattern) b₀ at b place t
 
 abbrev μ-loop : tie.MeasureT-loop
 μ-loop b₀ at m years pattern place₀ t₀ b place t = m - t
