@@ -32,7 +32,7 @@ extern "C" {
 #define PLANNER_LISTING_BYTES 32768
 
 /* The stack that a thread needs for any call here, its own beginnings, some 4 KB, included; what the caller's frames and signal
- * handlers use comes on top. It is measured, and tested on the largest plan (tests/stack), and not proved. */
+ * handlers use comes on top. It is not proved: tests/stack reads it off the compiled code, over every path, and measures it. */
 #define PLANNER_STACK_BYTES 98304
 
 /* What a call answers, by number: the checks in their order. */
