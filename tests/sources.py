@@ -154,6 +154,15 @@ def changed(edit, file, text):
 
 # ---- antt
 
+TAKES = re.compile(r"(?m)^(?:ghost )?use (\S+)\.\{([^}]*)\}")
+
+
+@functools.lru_cache(maxsize=None)
+def taken(text):
+    """The names that a source, of Rattle or of antt, takes from other modules: name, module."""
+    return [(name.strip(), module) for module, names in TAKES.findall(text) for name in names.split(",")]
+
+
 # What a file declares: `record`, `law` (a public name that is proved, and its type), `type` (that of a public name that is defined)
 # or `definition` (what a name is said to be), with the text that tests/claims.txt has of it, its lines, and for a record the lines of
 # each field.
