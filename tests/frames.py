@@ -1,9 +1,9 @@
 """What the functions of a compiled file need of the stack, on every path through them, read off their instructions (x86-64).
 
 The depth at an instruction is how far the stack pointer lies there below its place before the call, the return address included. It
-is followed from a function's first instruction along every jump. What is not understood is an error and not a guess: an instruction
-that paths reach at two depths, one that moves the stack pointer in another way, a call of an unknown function, a return that
-leaves something behind, a recursion without a limit.
+is followed from a function's first instruction along every jump. What is not understood is an error and not a guess: a line that is
+no instruction, an instruction that paths reach at two depths or that moves the stack pointer in another way, a call or a jump out of
+the function by a pointer, a call of an unknown function, a return that leaves something behind, a recursion without a limit.
 """
 import collections
 import re
@@ -14,7 +14,8 @@ Instruction = collections.namedtuple("Instruction", "op operands callee")
 
 LINE = re.compile(r"\s*([0-9a-f]+):\t([^\t#]*?)\s*(?:#[^\t]*)?(?:\t[0-9a-f]+: R_\S+\s+(\S+))?$")
 HEAD = re.compile(r"[0-9a-f]+ <(.+)>:$")
-PREFIX = re.compile(r"(?:(?:data16|cs|rep\w*|notrack|bnd|lock)\s+)*(\S+)\s*(.*)")
+BETWEEN = re.compile(r"|Disassembly of section .*:|In archive .*:|.*: +file format elf64-x86-64")
+OPERATION = re.compile(r"(?:(?:data16|cs|rep\w*|notrack|bnd|lock)\s+)*([a-z]\w*)\s*(.*)")
 STACK_POINTER = re.compile(r"%(?:rsp|esp|spl?)$")
 BELOW = re.compile(r"-(0x[0-9a-f]+)\(%rsp")
 ENDS = ("ret", "ud2", "hlt", "int3")
@@ -31,31 +32,48 @@ def number(text):
 
 
 def named(operand, relocation):
-    """The function that a call or a jump names: by its relocation, or by its symbol where that is the function's beginning."""
+    """The function whose beginning a call or a jump names, by its relocation or by its symbol."""
     if relocation:
-        return re.sub(r"[+-]0x[0-9a-f]+$", "", relocation).removeprefix(".text.")
+        return relocation.removesuffix("-0x4").removeprefix(".text.")  # of 4 bytes, counted from their end
     symbol = re.search(r"<([^+>]+)>$", operand)
     return symbol[1].removesuffix("@plt") if symbol else None
 
 
 def instruction(text, relocation):
-    op, rest = PREFIX.fullmatch(text).groups()
+    read = OPERATION.fullmatch(text)
+    if not read or read[1].startswith("loop"):
+        raise Unread(f"no instruction that is known: {text}")
+    op, rest = read.groups()
     goes = op == "call" or op.startswith("j")
     # commas inside brackets belong to an address
     operands = [rest] if goes else [part.strip() for part in re.split(r",(?![^(]*\))", rest)] if rest else []
     return Instruction(op, operands, named(rest, relocation) if goes else None)
 
 
-def functions(path):
-    """The functions of a file by name: their instructions by address."""
-    text = subprocess.run(["objdump", "-drw", "--no-show-raw-insn", path], stdout=subprocess.PIPE, text=True, check=True).stdout
-    found, body = {}, {}
+def disassembly(path):
+    return subprocess.run(["objdump", "-drw", "--no-show-raw-insn", path], stdout=subprocess.PIPE, text=True, check=True).stdout
+
+
+def functions(text):
+    """The functions of a disassembly by name: the lines of each."""
+    found = {}
     for line in text.splitlines():
-        head, one = HEAD.match(line), LINE.match(line)
+        head = HEAD.match(line)
         if head:
-            body = found[head[1]] = {}
-        elif one:
-            body[int(one[1], 16)] = instruction(one[2], one[3])
+            lines = found[head[1]] = []
+        elif not BETWEEN.fullmatch(line):
+            lines.append(line)
+    return found
+
+
+def instructions(lines):
+    """The instructions of a function by address."""
+    found = {}
+    for line in lines:
+        one = LINE.match(line)
+        if not one:
+            raise Unread(f"no line of a disassembly: {line}")
+        found[int(one[1], 16)] = instruction(one[2], one[3])
     return found
 
 
@@ -133,13 +151,17 @@ class Walk:
             return [(self.next.get(at, -1), moved(depth, one), marked(mark, depth, one))]
         on = [] if one.op == "jmp" else [(self.next.get(at, -1), depth, mark)]
         if one.operands[0].startswith("*"):
+            # by a table, to another place of the function: one that leaves it has taken its frame away before
+            if depth == WORD:
+                raise Unread(f"{self.name}: {at:x} may leave it for {one.operands[0]}")
             self.switches.add(depth)
             return on
-        target = int(one.operands[0].split()[0], 16)
-        if one.callee and one.callee != self.name:
-            self.called(depth - WORD, one)  # a jump out of the function, which returns for it
+        if one.callee:
+            self.called(depth - WORD, one)  # a jump to a function's beginning, which returns for this one
             return on
-        if mark is not None and target < at and self.body[self.order[self.order.index(at) - 1]].operands == ["%r11", "%rsp"]:
+        target = int(one.operands[0].split()[0], 16)
+        before = self.body[self.order[self.order.index(at) - 1]]
+        if mark is not None and target < at and before == ("cmp", ["%r11", "%rsp"], None):
             return [(self.next[at], mark, None)]  # round and round until the stack pointer is there
         return on + [(target, depth, mark)]
 
@@ -149,11 +171,11 @@ class Walk:
         self.calls.add((depth, one.callee))
 
 
-def needs(path, outside, recursions):
-    """A function that answers what a function of the file needs. `outside` has what the functions of other files need, `recursions`
+def needs(text, outside, recursions):
+    """A function that answers what a function of a disassembly needs. `outside` has what the functions of other files need, `recursions`
     how often a function may be on the stack that calls itself."""
     walks = {}
-    bodies = functions(path)
+    bodies = functions(text)
 
     def need(name, above=()):
         if name in outside:
@@ -161,7 +183,7 @@ def needs(path, outside, recursions):
         if name not in bodies or name in above:
             raise Unread(f"{name} is not in the file" if name not in bodies else f"{name} is reached from itself")
         if name not in walks:
-            walks[name] = Walk(name, bodies[name])
+            walks[name] = Walk(name, instructions(bodies[name]))
         walk = walks[name]
         own = max(reached(depth, walk.body[at]) for at, depth in walk.depth.items())
         again = max((depth for depth, callee in walk.calls if callee == name), default=0)
