@@ -23,6 +23,13 @@ extern "C" {
 #define PLANNER_AT_LEAST(count) static count
 #endif
 
+/* Members of a struct without a name of their own: C has them since 2011, C++ by an extension that every compiler knows. */
+#ifdef __GNUC__
+#define PLANNER_EXTENSION __extension__
+#else
+#define PLANNER_EXTENSION
+#endif
+
 /* The most that a plan can have, and the most bytes of a plan file and of a listing. */
 #define PLANNER_YEARS 30
 #define PLANNER_INSTRUMENTS 16
@@ -45,7 +52,7 @@ enum planner_refusal {
     PLANNER_LENGTH = 5,          /* a record's length is not what its kind and the head require */
     PLANNER_AMOUNT = 6,          /* a payment or an outflow is outside its range */
     PLANNER_ROLLOVER = 7,        /* the rollover shares do not sum to 1,000,000 */
-    PLANNER_RATE = 8,            /* a rate is above 200,000 */
+    PLANNER_RATE = 8,            /* a rate is below 0 or above 200,000 */
     PLANNER_ALLOCATION = 9,      /* the allocation does not sum to 1,000,000 */
     PLANNER_PATTERN = 10,        /* the pattern number is outside 1 to m */
     PLANNER_OUT_OF_LIMIT = 11,   /* a cell or a fund is outside +-1,000,000,000,000 */
@@ -59,38 +66,67 @@ enum planner_word {
     PLANNER_CLOSE = 3    /* the reckoned fund lies too near to zero to say */
 };
 
-/* A plan held as values. payments[j][k] is what instrument j + 1 pays in year k + 1 per 1,000,000,000 put in; rates[t][k] is the
- * rate i_(k+2) of pattern t + 1. */
+/* A plan held as values goes over this border in four arrays, one for each width of number. The arrays have these places; a field that a
+ * plan gains takes places after the last, so that no call's parameters and no place here ever change, and only the sizes grow.
+ *
+ * counts: N, n, q and m. */
+#define PLANNER_COUNTS 4
+/* amounts: the payments, a row of PLANNER_YEARS for each instrument, then the outflows. What instrument j + 1 pays in year k + 1 per
+ * 1,000,000,000 put in stands at PLANNER_AT_PAYMENTS + j * PLANNER_YEARS + k. */
+#define PLANNER_AT_PAYMENTS 0
+#define PLANNER_AT_OUTFLOWS 480
+#define PLANNER_AMOUNTS 510
+/* shares: the rollover, then the allocation. */
+#define PLANNER_AT_ROLLOVER 0
+#define PLANNER_AT_ALLOCATION 30
+#define PLANNER_SHARES 46
+/* rates: a row of PLANNER_YEARS for each pattern. The rate i_(k+2) of pattern t + 1 stands at PLANNER_AT_RATES + t * PLANNER_YEARS + k. */
+#define PLANNER_AT_RATES 0
+#define PLANNER_RATES 1920
+
+/* The same as a struct: each array by its name, and by the names of its places. */
 struct planner_plan {
-    size_t years, instruments, terms, patterns;
-    int64_t payments[PLANNER_INSTRUMENTS][PLANNER_YEARS];
-    int64_t outflows[PLANNER_YEARS];
-    uint32_t rollover[PLANNER_TERMS];
-    uint32_t rates[PLANNER_PATTERNS][PLANNER_YEARS];
-    uint32_t allocation[PLANNER_INSTRUMENTS];
+    PLANNER_EXTENSION union {
+        size_t counts[PLANNER_COUNTS];
+        PLANNER_EXTENSION struct {
+            size_t years, instruments, terms, patterns;
+        };
+    };
+    PLANNER_EXTENSION union {
+        int64_t amounts[PLANNER_AMOUNTS];
+        PLANNER_EXTENSION struct {
+            int64_t payments[PLANNER_INSTRUMENTS][PLANNER_YEARS];
+            int64_t outflows[PLANNER_YEARS];
+        };
+    };
+    PLANNER_EXTENSION union {
+        uint32_t shares[PLANNER_SHARES];
+        PLANNER_EXTENSION struct {
+            uint32_t rollover[PLANNER_TERMS];
+            uint32_t allocation[PLANNER_INSTRUMENTS];
+        };
+    };
+    PLANNER_EXTENSION union {
+        int32_t all_rates[PLANNER_RATES];
+        PLANNER_EXTENSION struct {
+            int32_t rates[PLANNER_PATTERNS][PLANNER_YEARS];
+        };
+    };
 };
 
 /* The listing of a file, into the first bytes of `out`; answers how many they are. The other bytes of `out` are untouched. A file
  * that is refused is listed as `refused` and its number. */
 size_t planner_list(const uint8_t *file, size_t file_length, uint8_t out[PLANNER_AT_LEAST(PLANNER_LISTING_BYTES)]);
 
-/* The plan that a file holds. Rows of payments and of rates come one after the other, PLANNER_YEARS to a row. Refusals 1 to 9. */
+/* The plan that a file holds. Refusals 1 to 9. */
 uint8_t planner_read(const uint8_t *file, size_t file_length,
-                     size_t *years, size_t *instruments, size_t *terms, size_t *patterns,
-                     int64_t payments[PLANNER_AT_LEAST(PLANNER_INSTRUMENTS * PLANNER_YEARS)],
-                     int64_t outflows[PLANNER_AT_LEAST(PLANNER_YEARS)],
-                     uint32_t rollover[PLANNER_AT_LEAST(PLANNER_TERMS)],
-                     uint32_t rates[PLANNER_AT_LEAST(PLANNER_PATTERNS * PLANNER_YEARS)],
-                     uint32_t allocation[PLANNER_AT_LEAST(PLANNER_INSTRUMENTS)]);
+                     size_t counts[PLANNER_AT_LEAST(PLANNER_COUNTS)], int64_t amounts[PLANNER_AT_LEAST(PLANNER_AMOUNTS)],
+                     uint32_t shares[PLANNER_AT_LEAST(PLANNER_SHARES)], int32_t rates[PLANNER_AT_LEAST(PLANNER_RATES)]);
 
 /* The file of a plan, into the first bytes of `buffer`, and its length. What the arrays hold past the plan's own numbers plays no
  * part. Refusals 3, 6 to 9 and 12; on a refusal the buffer is untouched and the length is 0. */
-uint8_t planner_write(size_t years, size_t instruments, size_t terms, size_t patterns,
-                      const int64_t payments[PLANNER_AT_LEAST(PLANNER_INSTRUMENTS * PLANNER_YEARS)],
-                      const int64_t outflows[PLANNER_AT_LEAST(PLANNER_YEARS)],
-                      const uint32_t rollover[PLANNER_AT_LEAST(PLANNER_TERMS)],
-                      const uint32_t rates[PLANNER_AT_LEAST(PLANNER_PATTERNS * PLANNER_YEARS)],
-                      const uint32_t allocation[PLANNER_AT_LEAST(PLANNER_INSTRUMENTS)],
+uint8_t planner_write(const size_t counts[PLANNER_AT_LEAST(PLANNER_COUNTS)], const int64_t amounts[PLANNER_AT_LEAST(PLANNER_AMOUNTS)],
+                      const uint32_t shares[PLANNER_AT_LEAST(PLANNER_SHARES)], const int32_t rates[PLANNER_AT_LEAST(PLANNER_RATES)],
                       uint8_t *buffer, size_t buffer_length, size_t *length);
 
 /* The calls on one pattern, counted from 1. Refusals 1 to 11; the bound's call reckons no cell and has no 11. */
@@ -117,15 +153,12 @@ uint8_t planner_verdict(const uint8_t *file, size_t file_length,
 /* planner_read and planner_write on a struct. */
 static inline uint8_t planner_read_plan(const uint8_t *file, size_t file_length, struct planner_plan *plan)
 {
-    return planner_read(file, file_length, &plan->years, &plan->instruments, &plan->terms, &plan->patterns,
-                        (int64_t *)plan->payments, plan->outflows, plan->rollover, (uint32_t *)plan->rates, plan->allocation);
+    return planner_read(file, file_length, plan->counts, plan->amounts, plan->shares, plan->all_rates);
 }
 
 static inline uint8_t planner_write_plan(const struct planner_plan *plan, uint8_t *buffer, size_t buffer_length, size_t *length)
 {
-    return planner_write(plan->years, plan->instruments, plan->terms, plan->patterns,
-                         (const int64_t *)plan->payments, plan->outflows, plan->rollover, (const uint32_t *)plan->rates,
-                         plan->allocation, buffer, buffer_length, length);
+    return planner_write(plan->counts, plan->amounts, plan->shares, plan->all_rates, buffer, buffer_length, length);
 }
 
 #ifdef __cplusplus

@@ -15,17 +15,17 @@
 #include "planner.h"
 
 enum {
-    PAYMENTS = PLANNER_INSTRUMENTS * PLANNER_YEARS,
-    RATES = PLANNER_PATTERNS * PLANNER_YEARS,
     GAMMAS = PLANNER_YEARS * PLANNER_YEARS,
     GUARD = 64,
     SECONDS = 20 /* for all calls of a request */
 };
 
 struct request {
-    uint64_t file_length, pattern, room, fill, years, instruments, terms, patterns;
-    int64_t payments[PAYMENTS], outflows[PLANNER_YEARS];
-    uint32_t rollover[PLANNER_TERMS], rates[RATES], allocation[PLANNER_INSTRUMENTS];
+    uint64_t file_length, pattern, room, fill;
+    size_t counts[PLANNER_COUNTS];
+    int64_t amounts[PLANNER_AMOUNTS];
+    uint32_t shares[PLANNER_SHARES];
+    int32_t rates[PLANNER_RATES];
 };
 
 static struct request request;
@@ -45,7 +45,7 @@ struct source {
     size_t size;
 };
 
-static struct source sources[6];
+static struct source sources[5];
 static size_t source_count;
 
 static void map_source(struct source *source, size_t most)
@@ -126,6 +126,12 @@ static void put_unsigned(const uint32_t *numbers, size_t count)
         printf(" %" PRIu32, numbers[k]);
 }
 
+static void put_rates(const int32_t *numbers, size_t count)
+{
+    for (size_t k = 0; k < count; k++)
+        printf(" %" PRId32, numbers[k]);
+}
+
 static void put_bytes(const uint8_t *bytes, size_t size, size_t length)
 {
     static const char digits[] = "0123456789abcdef";
@@ -158,22 +164,16 @@ static void call_read(const uint8_t *bytes)
 {
     begin("read");
     const uint8_t *file = source(bytes, request.file_length);
-    size_t *years = target(sizeof *years), *instruments = target(sizeof *instruments);
-    size_t *terms = target(sizeof *terms), *patterns = target(sizeof *patterns);
-    int64_t *payments = target(PAYMENTS * sizeof *payments), *outflows = target(PLANNER_YEARS * sizeof *outflows);
-    uint32_t *rollover = target(PLANNER_TERMS * sizeof *rollover), *rates = target(RATES * sizeof *rates);
-    uint32_t *allocation = target(PLANNER_INSTRUMENTS * sizeof *allocation);
-    put(planner_read(file, request.file_length, years, instruments, terms, patterns,
-                     payments, outflows, rollover, rates, allocation));
-    put(*years);
-    put(*instruments);
-    put(*terms);
-    put(*patterns);
-    put_signed(payments, PAYMENTS);
-    put_signed(outflows, PLANNER_YEARS);
-    put_unsigned(rollover, PLANNER_TERMS);
-    put_unsigned(rates, RATES);
-    put_unsigned(allocation, PLANNER_INSTRUMENTS);
+    size_t *counts = target(PLANNER_COUNTS * sizeof *counts);
+    int64_t *amounts = target(PLANNER_AMOUNTS * sizeof *amounts);
+    uint32_t *shares = target(PLANNER_SHARES * sizeof *shares);
+    int32_t *rates = target(PLANNER_RATES * sizeof *rates);
+    put(planner_read(file, request.file_length, counts, amounts, shares, rates));
+    for (size_t i = 0; i < PLANNER_COUNTS; i++)
+        put(counts[i]);
+    put_signed(amounts, PLANNER_AMOUNTS);
+    put_unsigned(shares, PLANNER_SHARES);
+    put_rates(rates, PLANNER_RATES);
     end();
 }
 
@@ -181,15 +181,13 @@ static void call_write(void)
 {
     begin("write");
     source_count = 1;
-    const int64_t *payments = source(request.payments, sizeof request.payments);
-    const int64_t *outflows = source(request.outflows, sizeof request.outflows);
-    const uint32_t *rollover = source(request.rollover, sizeof request.rollover);
-    const uint32_t *rates = source(request.rates, sizeof request.rates);
-    const uint32_t *allocation = source(request.allocation, sizeof request.allocation);
+    const size_t *counts = source(request.counts, sizeof request.counts);
+    const int64_t *amounts = source(request.amounts, sizeof request.amounts);
+    const uint32_t *shares = source(request.shares, sizeof request.shares);
+    const int32_t *rates = source(request.rates, sizeof request.rates);
     uint8_t *buffer = target(request.room);
     size_t *length = target(sizeof *length);
-    put(planner_write(request.years, request.instruments, request.terms, request.patterns,
-                      payments, outflows, rollover, rates, allocation, buffer, request.room, length));
+    put(planner_write(counts, amounts, shares, rates, buffer, request.room, length));
     put(*length);
     put_bytes(buffer, request.room, *length);
     end();
@@ -264,11 +262,10 @@ int main(void)
 {
     static uint8_t bytes[1 << 17];
     map_source(&sources[0], sizeof bytes);
-    map_source(&sources[1], sizeof request.payments);
-    map_source(&sources[2], sizeof request.outflows);
-    map_source(&sources[3], sizeof request.rollover);
+    map_source(&sources[1], sizeof request.counts);
+    map_source(&sources[2], sizeof request.amounts);
+    map_source(&sources[3], sizeof request.shares);
     map_source(&sources[4], sizeof request.rates);
-    map_source(&sources[5], sizeof request.allocation);
     while (fread(&request, sizeof request, 1, stdin) == 1) {
         need(request.file_length <= sizeof bytes, "the file is too long");
         need(fread(bytes, 1, request.file_length, stdin) == request.file_length, "the request is cut");

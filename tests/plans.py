@@ -141,7 +141,7 @@ def spoil(rng, plan, check):
     elif check == 7:
         shares(plan.rollover)
     elif check == 8 and plan.N > 1:
-        rng.choice(plan.rates)[rng.randrange(plan.N - 1)] = rng.choice([TOP + 1, 2 ** 32 - 1])
+        rng.choice(plan.rates)[rng.randrange(plan.N - 1)] = rng.choice([TOP + 1, 2 ** 31 - 1, 2 ** 31, 2 ** 32 - 1])
     else:
         shares(plan.allocation)
 

@@ -9,10 +9,9 @@ use Rattle.planner.specs.Calls.{noFund, noForm, fundAnswer, formAnswer}
 use Rattle.planner.specs.Verdict.{noVerdict, verdictAnswer}
 use Rattle.planner.specs.Demand3.{FundNear, FormNear, VerdictTrue}
 use Rattle.planner.proofs.Answers.{out-refused, out-accepted}
-use Rattle.planfile.specs.Read.{readAnswer}
-use Rattle.planfile.specs.Numbers.{numbersIn}
+use Rattle.planfile.specs.Read.{numbersIn, readAnswer}
 use Rattle.planfile.specs.declared.ReadAnswer.{ReadAnswer}
-use Rattle.planfile.proofs.Numbers.{read-numbers}
+use Rattle.planfile.proofs.Answers.{read-numbers}
 use Rattle.listing.proofs.Demand3.{of-file}
 use Rattle.becketgrape.specs.Calls.{onFile, fundOfFile, formOfFile, verdictOfFile}
 

@@ -11,8 +11,7 @@ use Rattle.planner.specs.Verdict.{noVerdict, verdictAnswer}
 use Rattle.planner.specs.declared.BoundAnswer.{BoundAnswer}
 use Rattle.planner.specs.declared.FormAnswer.{FormAnswer}
 use Rattle.planner.specs.declared.VerdictAnswer.{VerdictAnswer}
-use Rattle.planfile.specs.Read.{readAnswer}
-use Rattle.planfile.specs.Numbers.{numbersIn}
+use Rattle.planfile.specs.Read.{numbersIn, readAnswer}
 
 module _ (s : List ℕ) where
   -- any call

@@ -1,4 +1,2 @@
--- The library for programs in C: Calls has what each call answers for the bytes of a plan file, Arrays how a plan stands in plain
--- arrays.
+-- The library for programs in C: what each call answers for the bytes of a plan file.
 pub mod Calls
-pub mod Arrays

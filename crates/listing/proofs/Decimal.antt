@@ -16,9 +16,9 @@ use Rattle.whole.proofs.Bridge.{at, #, _⊖_, whole}
 use Rattle.whole.proofs.Laws.{ℕ-cases, pos-nonneg}
 use Rattle.whole.proofs.Range.{back}
 use Rattle.whole.proofs.Test.{false-true, le-leZ}
+use Rattle.little_endian.specs.Wrote.{Wrote}
+use Rattle.little_endian.proofs.Wrote.{wrote-none, wrote-then, wrote-as}
 use Rattle.listing.specs.Text.{digitsIn, decimal, signedText}
-use Rattle.listing.specs.Putting.{Wrote}
-use Rattle.listing.proofs.Wrote.{wrote-none, wrote-then, wrote-more, wrote-as}
 
 -- ---- one digit, or one more than a tenth has
 digits-one : (k n : ℕ) → n < 10 → (48 + n % 10) ∷ [] ≡ digitsIn (suc k) n
@@ -60,21 +60,21 @@ decimal-fewest n h = shown 19 n h
 
 -- ---- the three ways to put digits down
 module _ (n : ℕ) where
-  pub put-none : {l : List ℕ} {at most : ℕ} → most ≡ 0 → Wrote most l l at (digitsIn most n) at
+  pub put-none : {l : List ℕ} {at most : ℕ} → most ≡ 0 → Wrote l l at (digitsIn most n) at
   unfolding digitsIn
-  put-none {most = zero} e = wrote-none 0 _ _
+  put-none {most = zero} e = wrote-none _ _
   put-none {most = suc k} e = absurd (omega arith)
 
-  pub put-one : {l l′ : List ℕ} {at most x r : ℕ} → (most ≡ 0 → ⊥) → n < 10 → x ≡ 48 + n % 10 → Wrote 1 l l′ at (x ∷ []) r → Wrote most l l′ at (digitsIn most n) r
+  pub put-one : {l l′ : List ℕ} {at most x r : ℕ} → (most ≡ 0 → ⊥) → n < 10 → x ≡ 48 + n % 10 → Wrote l l′ at (x ∷ []) r → Wrote l l′ at (digitsIn most n) r
   put-one {most = zero} h k e w = absurd (h refl)
-  put-one {most = suc i} h k e w = wrote-as (ap (λ (y : ℕ). y ∷ []) e ∙ digits-one i n k) (wrote-more (omega arith) w)
+  put-one {most = suc i} h k e w = wrote-as (ap (λ (y : ℕ). y ∷ []) e ∙ digits-one i n k) w
 
   pub put-more : {l l′ l″ : List ℕ} {at most x p r : ℕ} → (most ≡ 0 → ⊥) → 10 ≤ n → x ≡ 48 + n % 10 →
-      Wrote (most - 1) l l′ at (digitsIn (most - 1) (n / 10)) p → Wrote 1 l′ l″ p (x ∷ []) r → Wrote most l l″ at (digitsIn most n) r
+      Wrote l l′ at (digitsIn (most - 1) (n / 10)) p → Wrote l′ l″ p (x ∷ []) r → Wrote l l″ at (digitsIn most n) r
   put-more {most = zero} h k e u w = absurd (h refl)
   put-more {most = suc i} h k e u w =
       let j : suc i - 1 ≡ i = omega arith in
-      wrote-as (ap₂ (λ (i y : ℕ). digitsIn i (n / 10) ++ (y ∷ [])) j e ∙ digits-more i n k) (wrote-more (omega arith) (wrote-then u w))
+      wrote-as (ap₂ (λ (i y : ℕ). digitsIn i (n / 10) ++ (y ∷ [])) j e ∙ digits-more i n k) (wrote-then u w)
 
 -- ---- a signed number, as the code takes it apart
 pub nonneg-text : (z : ℤ) → SFits w64 z → leZ (pos 0) (toZ w64 (ofZ w64 z)) ≡ true → decimal (natAbs (toZ w64 (ofZ w64 z))) ≡ signedText z

@@ -5,7 +5,7 @@ use Prim.Native.Nat.{ℕ}
 use Rattle.plan.specs.declared.Plan.{Plan}
 use Rattle.planner.proofs.Demand3.{fund-near, form-near, verdict-true, row-near, row-bound}
 use Rattle.planfile.specs.Read.{readAnswer}
-use Rattle.planfile.proofs.Numbers.{read-numbers}
+use Rattle.planfile.proofs.Answers.{read-numbers}
 use Rattle.listing.specs.Demand3.{Claims, OfPlan, OfFile}
 
 pub of-plan : (plan : Plan) → OfPlan plan

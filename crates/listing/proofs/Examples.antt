@@ -13,18 +13,21 @@ use Rattle.whole.specs.Entry.{nth, cut, entry}
 use Rattle.whole.specs.Table.{table}
 use Rattle.whole.specs.Test.{all, isBetween}
 use Rattle.reckoning.specs.Reckoning.{w, paid, flow, sent, alpha-step, alpha, fund}
-use Rattle.reckoning.specs.Bound.{h, ceiling, G, B, K, Q}
+use Rattle.reckoning.specs.Bound.{h, ceiling, G, B}
 use Rattle.reckoning.specs.Arrays.{alphasFit, fundFits}
-use Rattle.plan.specs.Numbers.{numbers, paymentsOf, outflowsOf, rolloverOf, ratesOf, allocationOf}
-use Rattle.plan.specs.Refusal.{answer, headOk, paymentsFit, paymentsOk, outflowsOk, rolloverOk, ratesFit, ratesOk, allocationOk, refusalOf}
+use Rattle.plan.specs.Held.{instrumentsHeld, outflowsHeld, rolloverHeld, patternsHeld, allocationHeld}
+use Rattle.plan.specs.Numbers.{numbers}
+use Rattle.plan.specs.Refusal.{answer, headOk, paymentsFit, paymentsOk, outflowsOk, rolloverOk, ratesFit, ratesOk, allocationOk, headRefusal, amountsRefusal, ratesRefusal, allocationRefusal, refusalOf}
 use Rattle.plan.specs.declared.Plan.{Plan}
 use Rattle.plan.proofs.Checks.{answer-accepted}
-use Rattle.planner.specs.Calls.{flowOf, boundOf, coefficientsFit, constantFits}
+use Rattle.planner.specs.Calls.{flowOf, fundAt, boundAt, coefficientAt, constantAt, flowFits, coefficientsFit, constantFits, coefficientsAt, boundOf}
 use Rattle.planner.specs.Verdict.{
   wordOf,
   bitsOf,
-  noPattern,
+  noPatternRow,
   rowFits,
+  wordAt,
+  rowAt,
   fundOf,
   patternWord,
   rowOf,
@@ -68,7 +71,7 @@ judgementL = record {
   rows =
       rowL 2 (negsuc 5_199_999) (pos 1_144_800_000) (pos 1_164_800_000)
       ∷ rowL 1 (pos 12_200_000) (pos 1_177_200_000) (pos 1_167_200_000)
-      ∷ replicate 62 noPattern;
+      ∷ replicate 62 noPatternRow;
 }
 
 unfoldable pub textL : List ℕ
@@ -86,9 +89,11 @@ unfolding judgementText linesText lineText amountsText fields signedText digitsI
 text-L = refl
 
 pub judged-L : judgementOf (numbers planL) ≡ judgementL
-unfolding judgementOf verdictAnswer verdictRefusal rowsOf rowOf rowFits fundOf patternWord shortBits planWord wordOf bitsOf flowOf boundOf coefficientsFit constantFits
-    refusalOf headOk paymentsOk paymentsFit outflowsOk rolloverOk ratesOk ratesFit allocationOk paymentsOf outflowsOf rolloverOf ratesOf allocationOf
-    fundFits alphasFit fund alpha alpha-step sent flow paid w h ceiling G B K Q floor shareOf sum sumℕ largest course history nth cut entry table all isBetween
+unfolding judgementOf verdictAnswer verdictRefusal rowsOf rowOf rowAt rowFits fundOf patternWord wordAt shortBits planWord wordOf bitsOf
+    flowOf fundAt boundAt coefficientAt constantAt flowFits coefficientsFit constantFits coefficientsAt boundOf
+    refusalOf headRefusal amountsRefusal ratesRefusal allocationRefusal headOk paymentsOk paymentsFit outflowsOk rolloverOk ratesOk ratesFit allocationOk
+    instrumentsHeld outflowsHeld rolloverHeld patternsHeld allocationHeld
+    fundFits alphasFit fund alpha alpha-step sent flow paid w h ceiling G B floor shareOf sum sumℕ largest course history nth cut entry table all isBetween
     planL nearL judgementL rowL
 judged-L = refl
 

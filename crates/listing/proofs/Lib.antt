@@ -1,6 +1,6 @@
--- The laws of the listing. Wrote has those of a text that is put into a buffer, Decimal those of numbers in base ten, Short what
+-- The laws of the listing. Putting has those of a text in a buffer, Decimal those of numbers in base ten, Short what
 -- the last line counts, File the ways out of `list`, Examples the case L; Demand3 has demand 3 whole, Demands what `list` carries.
-pub mod Wrote
+pub mod Putting
 pub mod Decimal
 pub mod Short
 pub mod File

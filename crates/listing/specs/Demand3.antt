@@ -9,8 +9,7 @@ use Rattle.plan.specs.declared.Plan.{Plan}
 use Rattle.planner.specs.Calls.{exactFund, boundOf, fundAnswer, boundAnswer, formAnswer}
 use Rattle.planner.specs.Verdict.{rowOf, verdictAnswer}
 use Rattle.planner.specs.Demand3.{FundNear, FormNear, VerdictTrue}
-use Rattle.planfile.specs.Read.{readAnswer}
-use Rattle.planfile.specs.Numbers.{numbersIn}
+use Rattle.planfile.specs.Read.{numbersIn, readAnswer}
 
 -- what is said of the numbers P: by the calls for any pattern number t, by the verdict, and by the row of each pattern, which is
 -- what is listed

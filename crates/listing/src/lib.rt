@@ -8,23 +8,26 @@ ghost use lib.Count.{ones};
 ghost use lib.IntN.{pos};
 ghost use lib.ListN.{length};
 ghost use Rattle.io.specs.Counts.{Counts};
+ghost use Rattle.little_endian.specs.Wrote.{Wrote};
 ghost use Rattle.listing.specs.Text.{digitsIn, signedText, wordText, field, fields, amountsText, lineText, linesText, lowestShort, lastText, refusedText, judgementText, textOf};
-ghost use Rattle.listing.specs.Putting.{Wrote, Listed};
+ghost use Rattle.listing.specs.Putting.{Listed};
 ghost use Rattle.listing.specs.Demands.{Demands};
 
 // ---- bytes and numbers
 
+// One byte.
 fn put_byte(b: &mut [u8], at: usize, x: u8) -> usize
     requires { ⌜ at + 1 ≤ length (now b) ⌝ }
-    ensures { λ r. ⌜ Wrote 1 (now (b .entry)) (now (b .exit)) at (x ∷ []) r ⌝ }
+    ensures { λ r. ⌜ Wrote (now (b .entry)) (now (b .exit)) at (x ∷ []) r ⌝ }
 {
     b[at] = x;
     at + 1
 }
 
+// The bytes of a text.
 fn put_bytes(b: &mut [u8], at: usize, text: &[u8]) -> usize
     requires { ⌜ at + length (now text) ≤ length (now b) ⌝ }
-    ensures { λ r. ⌜ Wrote (length (now (text .entry))) (now (b .entry)) (now (b .exit)) at (now (text .entry)) r ⌝ }
+    ensures { λ r. ⌜ Wrote (now (b .entry)) (now (b .exit)) at (now (text .entry)) r ⌝ }
 {
     let mut k = 0;
     while k < text.len() {
@@ -44,7 +47,8 @@ fn digit(n: u64) -> u8
 // A number of at most `most` digits.
 fn put_digits(b: &mut [u8], at: usize, n: u64, most: usize) -> usize
     requires { ⌜ at + most ≤ length (now b) ⌝ }
-    ensures { λ r. ⌜ Wrote most (now (b .entry)) (now (b .exit)) at (digitsIn most n) r ⌝ }
+    ensures { λ r. ⌜ Wrote (now (b .entry)) (now (b .exit)) at (digitsIn most n) r ⌝ }
+    ensures { λ r. ⌜ r ≤ at + most ⌝ }
 {
     if most == 0 {
         return at;
@@ -59,7 +63,8 @@ fn put_digits(b: &mut [u8], at: usize, n: u64, most: usize) -> usize
 // A whole number; -1 - z is taken below zero because -z may pass 64 bits.
 fn put_signed(b: &mut [u8], at: usize, z: i64) -> usize
     requires { ⌜ at + 21 ≤ length (now b) ⌝ }
-    ensures { λ r. ⌜ Wrote 21 (now (b .entry)) (now (b .exit)) at (signedText z) r ⌝ }
+    ensures { λ r. ⌜ Wrote (now (b .entry)) (now (b .exit)) at (signedText z) r ⌝ }
+    ensures { λ r. ⌜ r ≤ at + 21 ⌝ }
 {
     if 0 <= z {
         return put_digits(b, at, z as u64, 20);
@@ -70,9 +75,11 @@ fn put_signed(b: &mut [u8], at: usize, z: i64) -> usize
 
 // ---- lines
 
+// A space, and a whole number of at most 21 bytes.
 fn put_field(b: &mut [u8], at: usize, z: i64) -> usize
     requires { ⌜ at + 22 ≤ length (now b) ⌝ }
-    ensures { λ r. ⌜ Wrote 22 (now (b .entry)) (now (b .exit)) at (field z) r ⌝ }
+    ensures { λ r. ⌜ Wrote (now (b .entry)) (now (b .exit)) at (field z) r ⌝ }
+    ensures { λ r. ⌜ r ≤ at + 22 ⌝ }
 {
     let p = put_byte(b, at, 32);
     put_signed(b, p, z)
@@ -82,7 +89,8 @@ fn put_field(b: &mut [u8], at: usize, z: i64) -> usize
 fn put_fields(b: &mut [u8], at: usize, amounts: [i64; 16], n: usize) -> usize
     requires { ⌜ n ≤ 16 ⌝ }
     requires { ⌜ at + 22 * n ≤ length (now b) ⌝ }
-    ensures { λ r. ⌜ Wrote (22 * n) (now (b .entry)) (now (b .exit)) at (fields n amounts) r ⌝ }
+    ensures { λ r. ⌜ Wrote (now (b .entry)) (now (b .exit)) at (fields n amounts) r ⌝ }
+    ensures { λ r. ⌜ r ≤ at + 22 * n ⌝ }
 {
     let mut p = at;
     let mut k = 0;
@@ -94,9 +102,11 @@ fn put_fields(b: &mut [u8], at: usize, amounts: [i64; 16], n: usize) -> usize
     p
 }
 
+// A word by its number: 1 is solvent, 2 short, any other close.
 fn put_word(b: &mut [u8], at: usize, word: u8) -> usize
     requires { ⌜ at + 7 ≤ length (now b) ⌝ }
-    ensures { λ r. ⌜ Wrote 7 (now (b .entry)) (now (b .exit)) at (wordText word) r ⌝ }
+    ensures { λ r. ⌜ Wrote (now (b .entry)) (now (b .exit)) at (wordText word) r ⌝ }
+    ensures { λ r. ⌜ r ≤ at + 7 ⌝ }
 {
     if word == 1 {
         return put_bytes(b, at, b"solvent");
@@ -111,7 +121,8 @@ fn put_word(b: &mut [u8], at: usize, word: u8) -> usize
 fn put_amounts(b: &mut [u8], at: usize, row: PatternRow, n: usize) -> usize
     requires { ⌜ n ≤ 16 ⌝ }
     requires { ⌜ at + 418 ≤ length (now b) ⌝ }
-    ensures { λ r. ⌜ Wrote 418 (now (b .entry)) (now (b .exit)) at (amountsText n row) r ⌝ }
+    ensures { λ r. ⌜ Wrote (now (b .entry)) (now (b .exit)) at (amountsText n row) r ⌝ }
+    ensures { λ r. ⌜ r ≤ at + 418 ⌝ }
 {
     let p = put_field(b, at, row.fund);
     let q = put_field(b, p, row.bound);
@@ -124,7 +135,8 @@ fn put_amounts(b: &mut [u8], at: usize, row: PatternRow, n: usize) -> usize
 fn put_line(b: &mut [u8], at: usize, t: usize, row: PatternRow, n: usize) -> usize
     requires { ⌜ n ≤ 16 ⌝ }
     requires { ⌜ at + 447 ≤ length (now b) ⌝ }
-    ensures { λ r. ⌜ Wrote 447 (now (b .entry)) (now (b .exit)) at (lineText n t row) r ⌝ }
+    ensures { λ r. ⌜ Wrote (now (b .entry)) (now (b .exit)) at (lineText n t row) r ⌝ }
+    ensures { λ r. ⌜ r ≤ at + 447 ⌝ }
 {
     let p = put_digits(b, at, t as u64, 20);
     let q = put_byte(b, p, 32);
@@ -138,7 +150,8 @@ fn put_lines(b: &mut [u8], rows: [PatternRow; 64], m: usize, n: usize) -> usize
     requires { ⌜ m ≤ 64 ⌝ }
     requires { ⌜ n ≤ 16 ⌝ }
     requires { ⌜ 447 * m ≤ length (now b) ⌝ }
-    ensures { λ r. ⌜ Wrote (447 * m) (now (b .entry)) (now (b .exit)) 0 (linesText m n rows) r ⌝ }
+    ensures { λ r. ⌜ Wrote (now (b .entry)) (now (b .exit)) 0 (linesText m n rows) r ⌝ }
+    ensures { λ r. ⌜ r ≤ 447 * m ⌝ }
 {
     let mut p = 0;
     let mut t = 0;
@@ -170,7 +183,8 @@ fn lowest_short(bits: u64) -> i64
 // The last line.
 fn put_last(b: &mut [u8], at: usize, word: u8, bits: u64) -> usize
     requires { ⌜ at + 52 ≤ length (now b) ⌝ }
-    ensures { λ r. ⌜ Wrote 52 (now (b .entry)) (now (b .exit)) at (lastText word bits) r ⌝ }
+    ensures { λ r. ⌜ Wrote (now (b .entry)) (now (b .exit)) at (lastText word bits) r ⌝ }
+    ensures { λ r. ⌜ r ≤ at + 52 ⌝ }
 {
     let p = put_word(b, at, word);
     let q = put_field(b, p, short_count(bits));
@@ -181,7 +195,8 @@ fn put_last(b: &mut [u8], at: usize, word: u8, bits: u64) -> usize
 // A refusal's line.
 fn put_refused(b: &mut [u8], number: u8) -> usize
     requires { ⌜ 29 ≤ length (now b) ⌝ }
-    ensures { λ r. ⌜ Wrote 29 (now (b .entry)) (now (b .exit)) 0 (refusedText number) r ⌝ }
+    ensures { λ r. ⌜ Wrote (now (b .entry)) (now (b .exit)) 0 (refusedText number) r ⌝ }
+    ensures { λ r. ⌜ r ≤ 29 ⌝ }
 {
     let p = put_bytes(b, 0, b"refused ");
     let q = put_digits(b, p, number as u64, 20);
@@ -195,7 +210,8 @@ fn put_judgement(b: &mut [u8], m: usize, n: usize, s: Judgement) -> usize
     requires { ⌜ m ≤ 64 ⌝ }
     requires { ⌜ n ≤ 16 ⌝ }
     requires { ⌜ 28660 ≤ length (now b) ⌝ }
-    ensures { λ r. ⌜ Wrote 28660 (now (b .entry)) (now (b .exit)) 0 (judgementText m n s) r ⌝ }
+    ensures { λ r. ⌜ Wrote (now (b .entry)) (now (b .exit)) 0 (judgementText m n s) r ⌝ }
+    ensures { λ r. ⌜ r ≤ 28660 ⌝ }
 {
     let verdict = s.verdict;
     let no = verdict.refusal;
@@ -213,7 +229,7 @@ pub fn list(file: &[u8], out: &mut [u8; 32768]) -> usize
     ensures counts { λ r. ⌜ Counts r (now (out .exit)) ⌝ }
     ensures demands { λ _. ⌜ Demands (now (file .entry)) ⌝ }
 {
-    let found = planfile::read(file);
+    let found = reader::read(file);
     let no = found.refusal;
     if no != 0 {
         return put_refused(out, no);

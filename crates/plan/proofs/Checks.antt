@@ -2,38 +2,30 @@
 use mathlib.Core.Path.{_≡_, refl, sym, ap, _∙_}
 use mathlib.Core.Bool.{Bool, true, false}
 use mathlib.Core.List.{List, []}
-use Prim.Native.Nat.{ℕ, zero, suc, _+_, _-_, _<_}
+use Prim.Native.Nat.{ℕ, zero, suc, _+_, _-_, _≤_, _<_}
 use native.Mathlib.Omega.{arith}
 use borrow.Author.Tests.{eqb-true, eq-eqb}
-use lib.Dec.{leb, eqb}
+use lib.Dec.{eqb}
 use lib.ListN.{getD}
 use lib.IntN.{ℤ, pos}
 use Rattle.whole.specs.Range.{million, Between, Within}
 use Rattle.whole.specs.Sum.{sumℕ}
 use Rattle.whole.specs.Test.{both, all, isFrom, isBetween, isWithin}
-use Rattle.whole.specs.Entry.{entry}
+use Rattle.whole.specs.Table.{table}
 use Rattle.whole.proofs.Bridge.{whole}
 use Rattle.whole.proofs.Entry.{entry-each}
+use Rattle.whole.proofs.Table.{table-at}
 use Rattle.whole.proofs.Sum.{Σℕ-from}
-use Rattle.whole.proofs.Test.{both-first, both-second, all-yes, all-at, all-cong, between-fact, between-yes, between-pos, from-low, from-high, from-yes}
-use Rattle.plan.specs.Numbers.{
-  Numbers,
-  paymentAt,
-  outflowAt,
-  rolloverAt,
-  rateAt,
-  allocationAt,
-  paymentsOf,
-  outflowsOf,
-  ratesOf,
-  numbers,
-}
+use Rattle.whole.proofs.Test.{both-first, both-second, all-yes, all-at, all-cong, between-fact, between-yes, from-low, from-high, from-yes}
+use Rattle.plan.specs.Held.{instrumentHeld, patternHeld, instrumentAt, patternAt, outflowsHeld, held}
+use Rattle.plan.specs.Numbers.{Numbers, paymentsMeant, ratesMeant, numbers}
 use Rattle.plan.specs.Refusal.{
   check,
   firstOf,
   answer,
   most,
   top,
+  shapeOk,
   headOk,
   paymentsFit,
   paymentsOk,
@@ -42,6 +34,10 @@ use Rattle.plan.specs.Refusal.{
   ratesFit,
   ratesOk,
   allocationOk,
+  headRefusal,
+  amountsRefusal,
+  ratesRefusal,
+  allocationRefusal,
   refusalOf,
   Head,
   Accepted,
@@ -49,42 +45,45 @@ use Rattle.plan.specs.Refusal.{
 use Rattle.plan.specs.declared.Instrument.{Instrument}
 use Rattle.plan.specs.declared.Pattern.{Pattern}
 use Rattle.plan.specs.declared.Plan.{Plan}
-use Rattle.plan.proofs.Numbers.{payment-is, outflow-is, rollover-is, rollover-past, rate-is, allocation-is}
+use Rattle.plan.proofs.Held.{instrument-is, pattern-is, outflow-is, rollover-is, rollover-past, allocation-is, payment-is, rate-is, instrument-each, pattern-each}
 
 -- ---- each test of an array is the test of the numbers that stand there
--- the payments of the instrument at j, and the rates of the pattern at t
-abbrev pub paymentsHeld : (rows : List Instrument) (years j : ℕ) → Bool
-paymentsHeld rows years j = all years (λ k. isBetween (pos 0) (pos most) (getD (getD rows j (record { payments = [] }) .payments) k (pos 0)))
+-- the first n of an array lie between 0 and b
+abbrev pub upTo : (b n : ℕ) → List ℤ → Bool
+upTo b n xs = all n (λ k. isBetween (pos 0) (pos b) (getD xs k (pos 0)))
 
-abbrev pub ratesHeld : (rows : List Pattern) (years t : ℕ) → Bool
-ratesHeld rows years t = all (years - 1) (λ l. leb (getD (getD rows t (record { rates = [] }) .rates) l 0) top)
+-- what the instrument at j pays, and the rates of the pattern at t
+abbrev pub paymentsTested : (rows : List Instrument) (years j : ℕ) → Bool
+paymentsTested rows years j = upTo most years (paymentsMeant years (instrumentHeld years (getD rows j (record { payments = [] }))))
+
+abbrev pub ratesTested : (rows : List Pattern) (years t : ℕ) → Bool
+ratesTested rows years t = upTo top (years - 1) (ratesMeant years (patternHeld years (getD rows t (record { rates = [] }))))
+
+-- an array that is filled with f has passed if each f has
+up-to-table : (b n : ℕ) (f : ℕ → ℤ) → n ≤ 30 → upTo b n (table 30 n f (pos 0)) ≡ all n (λ k. isBetween (pos 0) (pos b) (f k))
+up-to-table b n f few = all-cong n _ _ (λ k l. ap (isBetween (pos 0) (pos b)) (table-at 30 n f (pos 0) (pos 0) k l few))
 
 module _ (plan : Plan) where
-  payments-fit : (j : ℕ) → j < plan .instruments → paymentsHeld (plan .instrument) (plan .years) j ≡ paymentsFit (numbers plan) j
-  unfolding paymentsFit
-  payments-fit j h = all-cong (plan .years) _ _ (λ k l. ap (isBetween (pos 0) (pos most)) (sym (payment-is plan j k h l)))
+  module _ (years-few : plan .years ≤ 30) where
+    pub payments-ok : all (plan .instruments) (paymentsTested (plan .instrument) (plan .years)) ≡ paymentsOk (numbers plan)
+    unfolding paymentsOk paymentsFit
+    payments-ok = all-cong (plan .instruments) _ _ (λ j h.
+        rw (instrument-is plan j h) (up-to-table most (plan .years) _ years-few))
 
-  pub payments-ok : all (plan .instruments) (paymentsHeld (plan .instrument) (plan .years)) ≡ paymentsOk (numbers plan)
-  unfolding paymentsOk
-  payments-ok = all-cong (plan .instruments) _ _ payments-fit
+    pub rates-ok : all (plan .patterns) (ratesTested (plan .pattern) (plan .years)) ≡ ratesOk (numbers plan)
+    unfolding ratesOk ratesFit
+    rates-ok = all-cong (plan .patterns) _ _ (λ t h.
+        rw (pattern-is plan t h) (up-to-table top (plan .years - 1) _ (omega arith)))
 
-  pub outflows-ok : all (plan .years) (λ k. isWithin most (outflowAt plan k)) ≡ outflowsOk (numbers plan)
+  pub outflows-ok : all (plan .years) (λ k. isWithin most (getD (plan .outflows) k (pos 0))) ≡ outflowsOk (numbers plan)
   unfolding outflowsOk
   outflows-ok = all-cong (plan .years) _ _ (λ k l. ap (isWithin most) (sym (outflow-is plan k l)))
 
-  rates-fit : (t : ℕ) → t < plan .patterns → ratesHeld (plan .pattern) (plan .years) t ≡ ratesFit (numbers plan) t
-  unfolding ratesFit
-  rates-fit t h = all-cong (plan .years - 1) _ _ (λ l k. sym (between-pos top _) ∙ ap (isBetween (pos 0) (pos top)) (sym (rate-is plan t l h k)))
-
-  pub rates-ok : all (plan .patterns) (ratesHeld (plan .pattern) (plan .years)) ≡ ratesOk (numbers plan)
-  unfolding ratesOk
-  rates-ok = all-cong (plan .patterns) _ _ rates-fit
-
-  pub rollover-ok : eqb (sumℕ (plan .terms) (rolloverAt plan)) million ≡ rolloverOk (numbers plan)
+  pub rollover-ok : eqb (sumℕ (plan .terms) (λ d. getD (plan .rollover) d 0)) million ≡ rolloverOk (numbers plan)
   unfolding rolloverOk
   rollover-ok = ap (λ (s : ℕ). eqb s million) (sym (Σℕ-from 1 (plan .terms) (plan .terms) (numbers plan .r) _ (omega arith) (rollover-is plan)))
 
-  pub allocation-ok : eqb (sumℕ (plan .instruments) (allocationAt plan)) million ≡ allocationOk (numbers plan)
+  pub allocation-ok : eqb (sumℕ (plan .instruments) (λ j. getD (plan .allocation) j 0)) million ≡ allocationOk (numbers plan)
   unfolding allocationOk
   allocation-ok = ap (λ (s : ℕ). eqb s million) (sym (Σℕ-from 1 (plan .instruments) (plan .instruments) (numbers plan .p) _ (omega arith) (allocation-is plan)))
 
@@ -124,6 +123,7 @@ pub not-refused : {A : Type 0} (refused : ℕ → A) (number : ℕ) (refusal : A
 not-refused refused zero refusal same accepted e = refl
 not-refused refused (suc n) refusal same accepted e = sym (same (suc n)) ∙ e
 
+-- check 3 is the same of a plan and of a shape with its counts
 pub head-is : (P : Numbers) → headOk P ≡ true → Head P
 unfolding headOk
 head-is P e =
@@ -145,49 +145,48 @@ head-is P e =
     }
 
 -- ---- what checks 6 and 8 say of each entry, and so of every index: what lies outside is 0
-each-between : (b : ℕ) {n : ℕ} {f : ℕ → ℤ} → ((j : ℕ) → j < n → Between (pos 0) (pos b) (f j)) → (k : ℕ) → Between (pos 0) (pos b) (entry (pos 0) n f k)
-each-between b = entry-each (pos 0) _ _ (Between (pos 0) (pos b)) (omega whole)
-
 module _ (plan : Plan) where
-  payment-fits : paymentsOk (numbers plan) ≡ true → (j : ℕ) → j < plan .instruments → (k : ℕ) → k < plan .years → Between (pos 0) (pos most) (paymentAt plan j k)
-  unfolding paymentsOk
-  payment-fits e j h k l = between-fact _ _ _ (all-at (plan .years) _ k l (payments-fit plan j h ∙ all-at (plan .instruments) _ j h e))
-
   payment-each : paymentsOk (numbers plan) ≡ true → (k j : ℕ) → Between (pos 0) (pos most) (numbers plan .a k j)
-  unfolding paymentsOf
-  payment-each e k = each-between most (λ j h. each-between most (payment-fits e j h) k)
+  unfolding paymentsOk paymentsFit
+  payment-each e k j =
+      instrument-each plan (λ a. Between (pos 0) (pos most) (a .payment k)) (omega whole)
+      (λ j h. entry-each (pos 0) (plan .years) _ (Between (pos 0) (pos most)) (omega whole)
+      (λ k l. rw (← payment-is plan j k h l) (between-fact _ _ _ (all-at (plan .years) _ k l (all-at (plan .instruments) _ j h e)))) k) j
 
   outflow-each : outflowsOk (numbers plan) ≡ true → (k : ℕ) → Within most (numbers plan .o k)
-  unfolding outflowsOf
+  unfolding outflowsHeld
   outflow-each e = entry-each _ _ _ (Within most) (omega whole) (λ k l. between-fact _ _ _ (all-at (plan .years) _ k l (outflows-ok plan ∙ e)))
 
-  rate-fits : ratesOk (numbers plan) ≡ true → (t : ℕ) → t < plan .patterns → (l : ℕ) → l < plan .years - 1 → Between (pos 0) (pos top) (rateAt plan t l)
-  unfolding ratesOk
-  rate-fits e t h l k =
-      between-fact _ _ _ (between-pos top _ ∙ all-at (plan .years - 1) _ l k (rates-fit plan t h ∙ all-at (plan .patterns) _ t h e))
-
   rate-each : ratesOk (numbers plan) ≡ true → (t l : ℕ) → Between (pos 0) (pos top) (numbers plan .i t l)
-  unfolding ratesOf
-  rate-each e t l = each-between top (λ t h. each-between top (rate-fits e t h) (l - 1)) t
+  unfolding ratesOk ratesFit
+  rate-each e t l =
+      pattern-each plan (λ i. Between (pos 0) (pos top) (i .rate (l - 1))) (omega whole)
+      (λ t h. entry-each (pos 0) (plan .years - 1) _ (Between (pos 0) (pos top)) (omega whole)
+      (λ l k. rw (← rate-is plan t l h k) (between-fact _ _ _ (all-at (plan .years - 1) _ l k (all-at (plan .patterns) _ t h e)))) (l - 1)) t
+
+-- what each part of the refusal says where it is none
+pub head-passed : (P : Numbers) → headRefusal P ≡ 0 → Head P
+unfolding headRefusal
+head-passed P e = head-is P (check-true (headOk P) 3 0 (omega arith) e)
 
 -- a plan that is not refused has passed every check
 pub accepted : (plan : Plan) → refusalOf (numbers plan) ≡ 0 → Accepted (numbers plan)
-unfolding refusalOf rolloverOk allocationOk
+unfolding refusalOf amountsRefusal ratesRefusal allocationRefusal rolloverOk allocationOk
 accepted plan e =
     let P = numbers plan in
-    let e₃ = check-rest (headOk P) 3 _ (omega arith) e in
-    let both₆ = check-true (both (paymentsOk P) (outflowsOk P)) 6 _ (omega arith) e₃ in
-    let e₆ = check-rest (both (paymentsOk P) (outflowsOk P)) 6 _ (omega arith) e₃ in
-    let e₇ = check-rest (rolloverOk P) 7 _ (omega arith) e₆ in
-    let e₈ = check-rest (ratesOk P) 8 _ (omega arith) e₇ in
+    let e₆ = first-next (headRefusal P) _ e in
+    let amounts = first-none (amountsRefusal P) _ e₆ in
+    let e₈ = first-next (amountsRefusal P) _ e₆ in
+    let both₆ = check-true (both (paymentsOk P) (outflowsOk P)) 6 _ (omega arith) amounts in
+    let e₇ = check-rest (both (paymentsOk P) (outflowsOk P)) 6 _ (omega arith) amounts in
     record {
-      head = head-is P (check-true (headOk P) 3 _ (omega arith) e);
+      head = head-passed P (first-none (headRefusal P) _ e);
       payments = payment-each plan (both-first _ _ both₆);
       outflows = outflow-each plan (both-second (paymentsOk P) _ both₆);
-      rollover = eqb-true _ _ (check-true (rolloverOk P) 7 _ (omega arith) e₆);
+      rollover = eqb-true _ _ (check-true (rolloverOk P) 7 0 (omega arith) e₇);
       rollover-past = rollover-past plan;
-      rates = rate-each plan (check-true (ratesOk P) 8 _ (omega arith) e₇);
-      allocation = eqb-true _ _ (check-true (allocationOk P) 9 _ (omega arith) e₈);
+      rates = rate-each plan (check-true (ratesOk P) 8 0 (omega arith) (first-none (ratesRefusal P) _ e₈));
+      allocation = eqb-true _ _ (check-true (allocationOk P) 9 0 (omega arith) (first-next (ratesRefusal P) _ e₈));
     }
 
 -- and what has all that is not refused
@@ -211,5 +210,5 @@ module _ {P : Numbers} (ok : Accepted P) where
   rates-pass = all-yes (P .patterns) _ (λ t h. all-yes (P .years - 1) _ (λ l k. between-yes _ _ _ (ok .rates (1 + t) (2 + l))))
 
   pub accepted-none : refusalOf P ≡ 0
-  unfolding refusalOf rolloverOk allocationOk
+  unfolding refusalOf headRefusal amountsRefusal ratesRefusal allocationRefusal rolloverOk allocationOk
   accepted-none = rw (head-passes, payments-pass, outflows-pass, eq-eqb _ _ (ok .rollover), rates-pass, eq-eqb _ _ (ok .allocation))

@@ -1,3 +1,3 @@
 -- What a plan's numbers are, that nothing else of the plan plays a part, and what a plan has that is not refused.
-pub mod Numbers
+pub mod Held
 pub mod Checks

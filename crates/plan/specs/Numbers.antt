@@ -1,12 +1,11 @@
--- What a plan means: its numbers by document 01's letters and indices, each 0 outside N, n, q and m. Every refusal, answer and
--- theorem is over these numbers, and none over the struct.
-use mathlib.Core.Path.{_≡_}
-use mathlib.Core.List.{[]}
-use Prim.Native.Nat.{ℕ, _-_, _<_}
-use lib.ListN.{getD}
+-- What is held means: numbers by document 01's letters and indices, each 0 outside N, n, q and m. Every refusal, answer and theorem is
+-- over these numbers, and none over a plan or a file.
+use mathlib.Core.List.{List}
+use Prim.Native.Nat.{ℕ, _+_, _-_}
 use lib.IntN.{ℤ, pos}
-use Rattle.whole.specs.Entry.{entry}
+use Rattle.whole.specs.Table.{table}
 use Rattle.plan.specs.declared.Plan.{Plan}
+use Rattle.plan.specs.Held.{HeldInstrument, HeldPattern, Held, held}
 
 -- N, n, q, m; the payment a_kj of instrument j in year k, the outflow o_k, the rollover share r_d, the rate i_l of pattern t,
 -- the share p_j of the allocation
@@ -21,61 +20,34 @@ pub record Numbers : Type 0 where
   pub i : (t l : ℕ) → ℤ
   pub p : (j : ℕ) → ℕ
 
--- what stands in the arrays, counted from 0
-abbrev pub paymentAt : Plan → (j k : ℕ) → ℤ
-paymentAt plan j k = getD (getD (plan .instrument) j (record { payments = [] }) .payments) k (pos 0)
+-- what an instrument pays in year k, and the rate of a pattern in year l, whose first is that of year 2
+abbrev pub paymentOf : HeldInstrument → (k : ℕ) → ℤ
+paymentOf a = a .payment
 
-abbrev pub outflowAt : Plan → (k : ℕ) → ℤ
-outflowAt plan k = getD (plan .outflows) k (pos 0)
+abbrev pub rateOf : HeldPattern → (l : ℕ) → ℤ
+rateOf i l = i .rate (l - 1)
 
-abbrev pub rolloverAt : Plan → (d : ℕ) → ℕ
-rolloverAt plan d = getD (plan .rollover) d 0
+-- the meaning of what is held
+abbrev pub meaning : Held → Numbers
+meaning H = record {
+  years = H .shape .years;
+  instruments = H .shape .instruments;
+  terms = H .shape .terms;
+  patterns = H .shape .patterns;
+  a = λ k j. paymentOf (H .instrument j) k;
+  o = H .outflow;
+  r = H .rollover;
+  i = λ t. rateOf (H .pattern t);
+  p = H .allocation;
+}
 
--- a pattern's array begins with i_2
-abbrev pub rateAt : Plan → (t l : ℕ) → ℤ
-rateAt plan t l = pos (getD (getD (plan .pattern) t (record { rates = [] }) .rates) l 0)
+-- of a plan
+abbrev pub numbers : Plan → Numbers
+numbers plan = meaning (held plan)
 
-abbrev pub allocationAt : Plan → (j : ℕ) → ℕ
-allocationAt plan j = getD (plan .allocation) j 0
+-- in an array: what an instrument pays in years 1 to N, and the rates of a pattern in years 2 to N, with zeros past them
+abbrev pub paymentsMeant : (N : ℕ) → HeldInstrument → List ℤ
+paymentsMeant N a = table 30 N (λ k. paymentOf a (1 + k)) (pos 0)
 
-module _ (plan : Plan) where
-  unfoldable pub paymentsOf : (k j : ℕ) → ℤ
-  paymentsOf k j = entry (pos 0) (plan .instruments) (λ j. entry (pos 0) (plan .years) (paymentAt plan j) k) j
-
-  unfoldable pub outflowsOf : (k : ℕ) → ℤ
-  outflowsOf = entry (pos 0) (plan .years) (outflowAt plan)
-
-  unfoldable pub rolloverOf : (d : ℕ) → ℕ
-  rolloverOf = entry 0 (plan .terms) (rolloverAt plan)
-
-  unfoldable pub ratesOf : (t l : ℕ) → ℤ
-  ratesOf t l = entry (pos 0) (plan .patterns) (λ t. entry (pos 0) (plan .years - 1) (rateAt plan t) (l - 1)) t
-
-  unfoldable pub allocationOf : (j : ℕ) → ℕ
-  allocationOf = entry 0 (plan .instruments) (allocationAt plan)
-
-  -- the plan's meaning, and the one definition that sees a plan
-  abbrev pub numbers : Numbers
-  numbers = record {
-    years = plan .years;
-    instruments = plan .instruments;
-    terms = plan .terms;
-    patterns = plan .patterns;
-    a = paymentsOf;
-    o = outflowsOf;
-    r = rolloverOf;
-    i = ratesOf;
-    p = allocationOf;
-  }
-
--- two plans agree within N, n, q and m; what they hold past these may differ
-pub record Agree (x y : Plan) : Type 0 where
-  pub years : x .years ≡ y .years
-  pub instruments : x .instruments ≡ y .instruments
-  pub terms : x .terms ≡ y .terms
-  pub patterns : x .patterns ≡ y .patterns
-  pub payment : (j k : ℕ) → j < x .instruments → k < x .years → paymentAt x j k ≡ paymentAt y j k
-  pub outflow : (k : ℕ) → k < x .years → outflowAt x k ≡ outflowAt y k
-  pub share : (d : ℕ) → d < x .terms → rolloverAt x d ≡ rolloverAt y d
-  pub rate : (t l : ℕ) → t < x .patterns → l < x .years - 1 → rateAt x t l ≡ rateAt y t l
-  pub part : (j : ℕ) → j < x .instruments → allocationAt x j ≡ allocationAt y j
+abbrev pub ratesMeant : (N : ℕ) → HeldPattern → List ℤ
+ratesMeant N i = table 30 (N - 1) (λ l. rateOf i (2 + l)) (pos 0)

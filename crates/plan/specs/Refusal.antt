@@ -7,6 +7,7 @@ use lib.IntN.{pos}
 use Rattle.whole.specs.Range.{million, Between, Within}
 use Rattle.whole.specs.Sum.{Σℕ}
 use Rattle.whole.specs.Test.{both, all, isFrom, isBetween, isWithin}
+use Rattle.plan.specs.declared.Shape.{Shape}
 use Rattle.plan.specs.Numbers.{Numbers}
 
 -- a check: its number if the test fails, else what comes after it
@@ -32,10 +33,16 @@ most = 20_000_000_000
 abbrev pub top : ℕ
 top = 200_000
 
+-- 3: N is 1 to 30, n 1 to 16, q 1 to 30, m 1 to 64
+abbrev pub countsOk : (N n q m : ℕ) → Bool
+countsOk N n q m = both (isFrom 1 30 N) (both (isFrom 1 16 n) (both (isFrom 1 30 q) (isFrom 1 64 m)))
+
+unfoldable pub shapeOk : Shape → Bool
+shapeOk h = countsOk (h .years) (h .instruments) (h .terms) (h .patterns)
+
 module _ (P : Numbers) where
-  -- 3: N is 1 to 30, n 1 to 16, q 1 to 30, m 1 to 64
   unfoldable pub headOk : Bool
-  headOk = both (isFrom 1 30 (P .years)) (both (isFrom 1 16 (P .instruments)) (both (isFrom 1 30 (P .terms)) (isFrom 1 64 (P .patterns))))
+  headOk = countsOk (P .years) (P .instruments) (P .terms) (P .patterns)
 
   -- 6: the payments of instrument 1 + j, those of all, the outflows
   unfoldable pub paymentsFit : (j : ℕ) → Bool
@@ -62,15 +69,35 @@ module _ (P : Numbers) where
   unfoldable pub allocationOk : Bool
   allocationOk = eqb (Σℕ 1 (P .instruments) (P .p)) million
 
-  -- the number of the first check that fails; 0 if none does
-  unfoldable pub refusalOf : ℕ
-  refusalOf =
+  -- ---- the number of the first check that fails; 0 if none does. A call with lists of its own has checks between these parts.
+  -- the head
+  unfoldable pub headRefusal : ℕ
+  headRefusal =
       check headOk 3
-      (check (both paymentsOk outflowsOk) 6
+      0
+
+  -- payments, outflows and the rollover
+  unfoldable pub amountsRefusal : ℕ
+  amountsRefusal =
+      check (both paymentsOk outflowsOk) 6
       (check rolloverOk 7
-      (check ratesOk 8
-      (check allocationOk 9
-      0))))
+      0)
+
+  -- the patterns
+  unfoldable pub ratesRefusal : ℕ
+  ratesRefusal =
+      check ratesOk 8
+      0
+
+  -- the allocation
+  unfoldable pub allocationRefusal : ℕ
+  allocationRefusal =
+      check allocationOk 9
+      0
+
+  -- the whole plan
+  unfoldable pub refusalOf : ℕ
+  refusalOf = firstOf headRefusal (firstOf amountsRefusal (firstOf ratesRefusal allocationRefusal))
 
 -- a head that check 3 takes
 pub record Head (P : Numbers) : Type 0 where

@@ -1,13 +1,21 @@
-// The plan held as values, and the checks that refuse it.
+// The plan held as values, what it means in arrays, and the checks that refuse it.
 ghost use mathlib.Core.Path.{_≡_};
-ghost use Prim.Native.Nat.{_-_, _≤_};
+ghost use Prim.Native.Nat.{_≤_};
 ghost use lib.ListN.{length, getD};
 ghost use lib.IntN.{pos};
-ghost use lib.Dec.{leb};
 ghost use Rattle.whole.specs.Sum.{sumℕ};
 ghost use Rattle.whole.specs.Test.{all, isFrom, isBetween};
-ghost use Rattle.plan.specs.Numbers.{numbers};
-ghost use Rattle.plan.specs.Refusal.{Head, headOk, paymentsOk, ratesOk, refusalOf};
+ghost use Rattle.plan.specs.Held.{shapeOf, instrumentHeld, patternHeld};
+ghost use Rattle.plan.specs.Numbers.{paymentsMeant, ratesMeant, numbers};
+ghost use Rattle.plan.specs.Refusal.{Head, shapeOk, paymentsOk, outflowsOk, rolloverOk, ratesOk, allocationOk, headRefusal, amountsRefusal, ratesRefusal, allocationRefusal, refusalOf};
+
+// N, n, q and m: what decides which records a plan file has.
+pub struct Shape {
+    pub years: usize,
+    pub instruments: usize,
+    pub terms: usize,
+    pub patterns: usize,
+}
 
 // The payments of one instrument per 1,000,000,000 put in, year after year.
 pub struct Instrument {
@@ -16,7 +24,7 @@ pub struct Instrument {
 
 // The rates i_2, i_3 and on of one new-money pattern.
 pub struct Pattern {
-    pub rates: [u32; 30],
+    pub rates: [i32; 30],
 }
 
 // N, n, q and m, and the numbers that they count; what an array holds past them plays no part.
@@ -32,6 +40,56 @@ pub struct Plan {
     pub allocation: [u32; 16],
 }
 
+// ---- what is meant
+
+// The shape of a plan.
+pub fn shape_of(plan: Plan) -> Shape
+    ensures { λ r. ⌜ r ≡ shapeOf plan ⌝ }
+{
+    Shape {
+        years: plan.years,
+        instruments: plan.instruments,
+        terms: plan.terms,
+        patterns: plan.patterns,
+    }
+}
+
+// What an instrument pays in each of the first `years` years, and zeros past them.
+pub fn payments(row: Instrument, years: usize) -> [i64; 30]
+    requires { ⌜ years ≤ 30 ⌝ }
+    ensures { λ r. ⌜ r ≡ paymentsMeant years (instrumentHeld years row) ⌝ }
+{
+    let xs = row.payments;
+    let mut v = [0i64; 30];
+    for k in 0..years {
+        v[k] = xs[k];
+    }
+    v
+}
+
+fn wide(x: i32) -> i64
+    ensures { λ s. ⌜ s ≡ x ⌝ }
+{
+    x as i64
+}
+
+// The rates of a pattern in years 2 to `years`, one fewer than there are years, and zeros past them.
+pub fn rates(row: Pattern, years: usize) -> [i64; 30]
+    requires { ⌜ 1 ≤ years ⌝ }
+    requires { ⌜ years ≤ 30 ⌝ }
+    ensures { λ r. ⌜ r ≡ ratesMeant years (patternHeld years row) ⌝ }
+{
+    let xs = row.rates;
+    let n = years - 1;
+    let mut v = [0i64; 30];
+    for l in 0..n {
+        v[l] = wide(xs[l]);
+    }
+    v
+}
+
+// ---- the checks, one by one
+
 pub fn is_from(low: usize, high: usize, x: usize) -> bool
     ensures { λ b. ⌜ b ≡ isFrom low high x ⌝ }
 {
@@ -45,49 +103,31 @@ pub fn is_from(low: usize, high: usize, x: usize) -> bool
 }
 
 // Check 3.
-fn head_ok(plan: Plan) -> bool
-    ensures { λ b. ⌜ b ≡ headOk (numbers plan) ⌝ }
+pub fn shape_ok(shape: Shape) -> bool
+    ensures { λ b. ⌜ b ≡ shapeOk shape ⌝ }
 {
-    let years = plan.years;
-    if !is_from(1, 30, years) {
+    if !is_from(1, 30, shape.years) {
         return false;
     }
-    let instruments = plan.instruments;
-    if !is_from(1, 16, instruments) {
+    if !is_from(1, 16, shape.instruments) {
         return false;
     }
-    let terms = plan.terms;
-    if !is_from(1, 30, terms) {
+    if !is_from(1, 30, shape.terms) {
         return false;
     }
-    let patterns = plan.patterns;
-    is_from(1, 64, patterns)
+    is_from(1, 64, shape.patterns)
 }
 
 // Each of the first n amounts is at least `low` and at most `high`.
-fn amounts_ok(xs: [i64; 30], n: usize, low: i64, high: i64) -> bool
-    requires { ⌜ n ≤ 30 ⌝ }
-    ensures { λ b. ⌜ b ≡ all n (λ k. isBetween low high (getD xs k (pos 0))) ⌝ }
+fn amounts_ok(xs: &[i64], n: usize, low: i64, high: i64) -> bool
+    requires { ⌜ n ≤ length (now xs) ⌝ }
+    ensures { λ b. ⌜ b ≡ all n (λ k. isBetween low high (getD (now (xs .entry)) k (pos 0))) ⌝ }
 {
     for k in 0..n {
         let z = xs[k];
         if z < low {
             return false;
         }
-        if z > high {
-            return false;
-        }
-    }
-    true
-}
-
-// Each of the first n rates is at most `high`.
-fn at_most(xs: [u32; 30], n: usize, high: u32) -> bool
-    requires { ⌜ n ≤ 30 ⌝ }
-    ensures { λ b. ⌜ b ≡ all n (λ k. leb (getD xs k 0) high) ⌝ }
-{
-    for k in 0..n {
-        let z = xs[k];
         if z > high {
             return false;
         }
@@ -118,12 +158,30 @@ fn payments_ok(plan: Plan) -> bool
     let instrument = plan.instrument;
     for j in 0..n {
         let row = instrument[j];
-        let amounts = row.payments;
-        if !amounts_ok(amounts, years, 0, 20_000_000_000) {
+        let amounts = payments(row, years);
+        if !amounts_ok(&amounts, years, 0, 20_000_000_000) {
             return false;
         }
     }
     true
+}
+
+// Check 6, the outflows.
+fn outflows_ok(plan: Plan) -> bool
+    requires { ⌜ Head (numbers plan) ⌝ }
+    ensures { λ b. ⌜ b ≡ outflowsOk (numbers plan) ⌝ }
+{
+    let outflows = plan.outflows;
+    amounts_ok(&outflows, plan.years, -20_000_000_000, 20_000_000_000)
+}
+
+// Check 7.
+fn rollover_ok(plan: Plan) -> bool
+    requires { ⌜ Head (numbers plan) ⌝ }
+    ensures { λ b. ⌜ b ≡ rolloverOk (numbers plan) ⌝ }
+{
+    let rollover = plan.rollover;
+    sum(&rollover, plan.terms) == 1_000_000
 }
 
 // Check 8.
@@ -136,41 +194,89 @@ fn rates_ok(plan: Plan) -> bool
     let pattern = plan.pattern;
     for t in 0..m {
         let row = pattern[t];
-        let rates = row.rates;
-        if !at_most(rates, years - 1, 200_000) {
+        let rates = rates(row, years);
+        if !amounts_ok(&rates, years - 1, 0, 200_000) {
             return false;
         }
     }
     true
 }
 
+// Check 9.
+fn allocation_ok(plan: Plan) -> bool
+    requires { ⌜ Head (numbers plan) ⌝ }
+    ensures { λ b. ⌜ b ≡ allocationOk (numbers plan) ⌝ }
+{
+    let allocation = plan.allocation;
+    sum(&allocation, plan.instruments) == 1_000_000
+}
+
+// ---- the checks in their order
+
+// The part of the refusal that is the head's: 3, or 0.
+pub fn head_refusal(plan: Plan) -> u8
+    ensures { λ s. ⌜ s ≡ headRefusal (numbers plan) ⌝ }
+{
+    if !shape_ok(shape_of(plan)) {
+        return 3;
+    }
+    0
+}
+
+// That of the payments, the outflows and the rollover: 6 or 7, or 0.
+pub fn amounts_refusal(plan: Plan) -> u8
+    requires { ⌜ Head (numbers plan) ⌝ }
+    ensures { λ s. ⌜ s ≡ amountsRefusal (numbers plan) ⌝ }
+{
+    if !payments_ok(plan) {
+        return 6;
+    }
+    if !outflows_ok(plan) {
+        return 6;
+    }
+    if !rollover_ok(plan) {
+        return 7;
+    }
+    0
+}
+
+// That of the patterns: 8, or 0.
+pub fn rates_refusal(plan: Plan) -> u8
+    requires { ⌜ Head (numbers plan) ⌝ }
+    ensures { λ s. ⌜ s ≡ ratesRefusal (numbers plan) ⌝ }
+{
+    if !rates_ok(plan) {
+        return 8;
+    }
+    0
+}
+
+// That of the allocation: 9, or 0.
+pub fn allocation_refusal(plan: Plan) -> u8
+    requires { ⌜ Head (numbers plan) ⌝ }
+    ensures { λ s. ⌜ s ≡ allocationRefusal (numbers plan) ⌝ }
+{
+    if !allocation_ok(plan) {
+        return 9;
+    }
+    0
+}
+
 // The number of the first of the checks 3 and 6 to 9 that the plan fails; 0 if none.
 pub fn refusal(plan: Plan) -> u8
     ensures { λ s. ⌜ s ≡ refusalOf (numbers plan) ⌝ }
 {
-    if !head_ok(plan) {
-        return 3;
+    let head = head_refusal(plan);
+    if head != 0 {
+        return head;
     }
-    if !payments_ok(plan) {
-        return 6;
+    let amounts = amounts_refusal(plan);
+    if amounts != 0 {
+        return amounts;
     }
-    let outflows = plan.outflows;
-    let years = plan.years;
-    if !amounts_ok(outflows, years, -20_000_000_000, 20_000_000_000) {
-        return 6;
+    let rates = rates_refusal(plan);
+    if rates != 0 {
+        return rates;
     }
-    let rollover = plan.rollover;
-    let terms = plan.terms;
-    if sum(&rollover, terms) != 1_000_000 {
-        return 7;
-    }
-    if !rates_ok(plan) {
-        return 8;
-    }
-    let allocation = plan.allocation;
-    let n = plan.instruments;
-    if sum(&allocation, n) != 1_000_000 {
-        return 9;
-    }
-    0
+    allocation_refusal(plan)
 }

@@ -1,43 +1,46 @@
--- What checks 3, 4 and 5 say of the records of a file s, and what the answer is once the checks are made.
+-- What checks 3, 4 and 5 say of the records of a file s: by what the cursor finds, and what a file that passes has.
 use mathlib.Core.Path.{_≡_, sym, ap, _∙_}
 use mathlib.Core.Bool.{Bool, true, false}
 use mathlib.Core.List.{List}
 use Prim.Native.Nat.{ℕ, _-_, _≤_, _<_}
 use native.Mathlib.Omega.{arith}
-use borrow.Author.Tests.{eqb-true}
+use borrow.Author.Tests.{eqb-true, eq-eqb}
 use lib.Dec.{eqb, leb}
-use lib.ListN.{length, getD}
-use Rattle.whole.specs.Test.{both, all, isFrom}
-use Rattle.whole.proofs.Test.{both-first, both-second, all-at, all-fails, false-true, from-low, from-high}
-use Rattle.records.specs.declared.Next.the-variants.{Record, Stop}
+use lib.ListN.{length}
+use Rattle.whole.specs.Test.{both, all}
+use Rattle.whole.proofs.Test.{both-first, both-second, all-at, all-fails, all-yes, false-true}
 use Rattle.records.specs.Cursor.{wholeAt, wholeFile, nextAt, place, kindAt, bodyAt}
-use Rattle.records.proofs.Cursor.{whole-end, next-known, next-none, kind-next, length-next, length-body}
-use Rattle.plan.specs.Numbers.{numbers}
-use Rattle.plan.specs.Refusal.{check, refusalOf}
-use Rattle.plan.proofs.Checks.{check-true, check-rest, first-some, answer-refused}
-use Rattle.planfile.specs.declared.Head.{Head}
-use Rattle.planfile.specs.declared.ReadAnswer.{ReadAnswer}
-use Rattle.planfile.specs.Format.{kindsOf, sizeOf}
-use Rattle.planfile.specs.Read.{noPlan, rangesOk, headAt, firstOk, kindOk, kindsOk, sizeOk, sizesOk, planOf, layoutRefusal, readRefusal, readAnswer}
+use Rattle.records.specs.declared.Next.the-variants.{Record, Stop}
+use Rattle.records.proofs.Cursor.{whole-end, next-known, next-none, kind-next, length-next, length-body, Consists}
+use Rattle.plan.specs.declared.Shape.{Shape}
+use Rattle.plan.specs.Held.{Held}
+use Rattle.plan.specs.Numbers.{meaning}
+use Rattle.plan.specs.Refusal.{check, shapeOk, headOk, Head}
+use Rattle.plan.proofs.Checks.{check-true, check-rest, head-is}
+use Rattle.planfile.specs.declared.Group.{Group}
+use Rattle.planfile.specs.Kinds.{roleOf, sizeOf}
+use Rattle.planfile.specs.Groups.{groupsOf, total, spotAt, none}
+use Rattle.planfile.specs.Checks.{shapeIn, hasRole, firstOk, roleOk, rolesOk, sizeOk, sizesOk, layoutRefusal}
+use Rattle.planfile.specs.Records.{heldOf}
 use Rattle.planfile.specs.Reading.{InRange, Laid}
 
 -- ---- check 3
-ranges : (h : Head) → rangesOk h ≡ true → InRange h
-ranges h e =
-    let years = both-first _ _ e in
-    let e₁ = both-second (isFrom 1 30 (h .years)) _ e in
-    let e₂ = both-second (isFrom 1 16 (h .instruments)) _ e₁ in
-    record {
-      years-some = from-low 1 30 (h .years) years;
-      years-few = from-high 1 30 (h .years) years;
-      instruments-few = from-high 1 16 (h .instruments) (both-first _ _ e₁);
-      terms-few = from-high 1 30 (h .terms) (both-first _ _ e₂);
-      patterns-few = from-high 1 64 (h .patterns) (both-second (isFrom 1 30 (h .terms)) _ e₂);
-    }
+pub head-range : (H : Held) → Head (meaning H) → InRange (H .shape)
+head-range H k = record {
+  years-some = k .years-some;
+  years-few = k .years-few;
+  instruments-few = k .instruments-few;
+  terms-few = k .terms-few;
+  patterns-few = k .patterns-few;
+}
+
+pub shape-range : (h : Shape) → shapeOk h ≡ true → InRange h
+unfolding shapeOk headOk heldOf
+shape-range h e = let H = heldOf h (λ role j. none) in head-range H (head-is (meaning H) e)
 
 module _ (s : List ℕ) where
   -- by what the cursor finds
-  pub first-found : (k a e : ℕ) → nextAt s 0 ≡ Record k a e → firstOk s ≡ both (eqb k 1) (both (eqb (e - a) 4) (rangesOk (headAt s)))
+  pub first-found : (k a e : ℕ) → nextAt s 0 ≡ Record k a e → firstOk s ≡ both (eqb k 1) (both (eqb (e - a) 4) (shapeOk (shapeIn s)))
   unfolding firstOk place
   first-found k a e n = rw (next-known s 0 k a e n .whole, ← kind-next s 0 k a e n, ← length-next s 0 k a e n)
 
@@ -47,12 +50,12 @@ module _ (s : List ℕ) where
 
   -- what a file that passes has
   module _ (e : firstOk s ≡ true) where
-    body-passed : both (eqb (length (bodyAt s 0)) 4) (rangesOk (headAt s)) ≡ true
+    body-passed : both (eqb (length (bodyAt s 0)) 4) (shapeOk (shapeIn s)) ≡ true
     unfolding firstOk
     body-passed = both-second (eqb (kindAt s 0) 1) _ (both-second (wholeAt s 0) _ e)
 
-    pub first-ranges : InRange (headAt s)
-    first-ranges = ranges (headAt s) (both-second (eqb (length (bodyAt s 0)) 4) _ body-passed)
+    pub first-shape : shapeOk (shapeIn s) ≡ true
+    first-shape = both-second (eqb (length (bodyAt s 0)) 4) _ body-passed
 
     pub first-long : 8 ≤ length s
     unfolding firstOk place
@@ -62,87 +65,83 @@ module _ (s : List ℕ) where
         omega (arith, whole-end s 0 w, length-body s 0 w)
 
 -- ---- check 4
-module _ (s : List ℕ) (h : Head) where
+module _ (s : List ℕ) (gs : List Group) where
   -- record t by what the cursor finds
   module _ (t : ℕ) where
-    pub kind-found : (k a e : ℕ) → nextAt s (place s t) ≡ Record k a e → kindOk s h t ≡ eqb k (getD (kindsOf h) t 0)
-    unfolding kindOk
-    kind-found k a e n = rw (next-known s (place s t) k a e n .whole, ← kind-next s t k a e n)
+    pub role-found : (k a e : ℕ) → nextAt s (place s t) ≡ Record k a e → roleOk s gs t ≡ eqb (roleOf k) (spotAt gs t .role)
+    unfolding roleOk hasRole
+    role-found k a e n = rw (next-known s (place s t) k a e n .whole, ← kind-next s t k a e n)
 
-    pub kind-missing : (l : ℕ) → nextAt s (place s t) ≡ Stop l → kindOk s h t ≡ false
-    unfolding kindOk
-    kind-missing l n = rw (next-none s (place s t) l n .0)
+    pub role-missing : (l : ℕ) → nextAt s (place s t) ≡ Stop l → roleOk s gs t ≡ false
+    unfolding roleOk hasRole
+    role-missing l n = rw (next-none s (place s t) l n .0)
 
-    pub kinds-fail : t < length (kindsOf h) → kindOk s h t ≡ false → kindsOk s h ≡ false
-    unfolding kindsOk
-    kinds-fail l e = ap (λ (b : Bool). both b (eqb (place s (length (kindsOf h))) (length s))) (all-fails _ _ t l e)
+    pub roles-fail : t < total gs → roleOk s gs t ≡ false → rolesOk s gs ≡ false
+    unfolding rolesOk
+    roles-fail l e = ap (λ (b : Bool). both b (eqb (place s (total gs)) (length s))) (all-fails _ _ t l e)
 
   -- all of them found, and the place after the last
-  pub kinds-end : (t at : ℕ) → t ≡ length (kindsOf h) → at ≡ place s t → all t (kindOk s h) ≡ true → eqb at (length s) ≡ kindsOk s h
-  unfolding kindsOk
-  kinds-end t at i e a = rw (← i, a, e)
+  pub roles-end : (t at : ℕ) → t ≡ total gs → at ≡ place s t → all t (roleOk s gs) ≡ true → eqb at (length s) ≡ rolesOk s gs
+  unfolding rolesOk
+  roles-end t at i e a = rw (← i, a, e)
+
+  -- what a file that passes has
+  module _ (e : rolesOk s gs ≡ true) where
+    passed : (t : ℕ) → t < total gs → hasRole s t (spotAt gs t .role) ≡ true
+    unfolding rolesOk roleOk
+    passed t l = all-at _ (roleOk s gs) t l (both-first _ _ e)
+
+    pub roles-consist : Consists s (total gs)
+    unfolding rolesOk hasRole
+    roles-consist = record {
+      whole = λ t l. both-first _ _ (passed t l);
+      ends = eqb-true _ _ (both-second (all (total gs) (roleOk s gs)) _ e);
+    }
+
+    pub role-there : (t : ℕ) → t < total gs → roleOf (kindAt s t) ≡ spotAt gs t .role
+    unfolding hasRole
+    role-there t l = eqb-true _ _ (both-second (wholeAt s (place s t)) _ (passed t l))
+
+    pub none-missing : (t l : ℕ) → t < total gs → nextAt s (place s t) ≡ Stop l → ⊥
+    none-missing t l h n = false-true (sym (next-none s (place s t) l n .0) ∙ roles-consist .whole t h)
+
+  -- and what passes
+  pub roles-pass : ((t : ℕ) → t < total gs → hasRole s t (spotAt gs t .role) ≡ true) → place s (total gs) ≡ length s → rolesOk s gs ≡ true
+  unfolding rolesOk roleOk
+  roles-pass r e = rw (all-yes (total gs) (roleOk s gs) r) (eq-eqb _ _ e)
+
+-- ---- check 5
+module _ (s : List ℕ) (h : Shape) where
+  -- record t by what the cursor finds
+  pub size-found : (t k a e : ℕ) → nextAt s (place s t) ≡ Record k a e → sizeOk s h t ≡ eqb (e - a) (sizeOf h k)
+  unfolding sizeOk
+  size-found t k a e n = rw (← kind-next s t k a e n, ← length-next s t k a e n)
 
   -- what record t of a file that passes has
-  module _ (e : kindsOk s h ≡ true) (t : ℕ) (l : t < length (kindsOf h)) where
-    passed-4 : kindOk s h t ≡ true
-    unfolding kindsOk
-    passed-4 = all-at _ _ t l (both-first _ _ e)
-
-    whole-there : wholeAt s (place s t) ≡ true
-    unfolding kindOk
-    whole-there = both-first _ _ passed-4
-
-    pub kind-there : kindAt s t ≡ getD (kindsOf h) t 0
-    unfolding kindOk
-    kind-there = eqb-true _ _ (both-second (wholeAt s (place s t)) _ passed-4)
-
-    pub none-missing : (l : ℕ) → nextAt s (place s t) ≡ Stop l → ⊥
-    none-missing l n = false-true (sym (next-none s (place s t) l n .0) ∙ whole-there)
-
-    -- ---- check 5
-    -- record t by what the cursor finds
-    pub size-found : (k a e : ℕ) → nextAt s (place s t) ≡ Record k a e → sizeOk s h t ≡ eqb (e - a) (sizeOf h k)
-    unfolding sizeOk
-    size-found k a e n = rw (← kind-there, ← kind-next s t k a e n, ← length-next s t k a e n)
-
-  -- what record t of a file that passes has
-  pub size-there : sizesOk s h ≡ true → (t : ℕ) → t < length (kindsOf h) → length (bodyAt s t) ≡ sizeOf h (getD (kindsOf h) t 0)
+  pub size-there : sizesOk s h ≡ true → (t : ℕ) → t < total (groupsOf h) → length (bodyAt s t) ≡ sizeOf h (kindAt s t)
   unfolding sizesOk sizeOk
   size-there e t l = eqb-true _ _ (all-at _ (sizeOk s h) t l e)
 
+  -- and what passes
+  pub sizes-pass : ((t : ℕ) → t < total (groupsOf h) → length (bodyAt s t) ≡ sizeOf h (kindAt s t)) → sizesOk s h ≡ true
+  unfolding sizesOk sizeOk
+  sizes-pass r = all-yes (total (groupsOf h)) (sizeOk s h) (λ t l. eq-eqb _ _ (r t l))
+
 -- ---- checks 1 to 5 together
 module _ (s : List ℕ) (e : layoutRefusal s ≡ 0) where
-  from-3 : check (firstOk s) 3 (check (kindsOk s (headAt s)) 4 (check (sizesOk s (headAt s)) 5 0)) ≡ 0
+  from-3 : check (firstOk s) 3 (check (rolesOk s (groupsOf (shapeIn s))) 4 (check (sizesOk s (shapeIn s)) 5 0)) ≡ 0
   unfolding layoutRefusal
   from-3 = check-rest (wholeFile s) 2 _ (omega arith) (check-rest (leb (length s) 16_384) 1 _ (omega arith) e)
 
   pub layout-first : firstOk s ≡ true
   layout-first = check-true (firstOk s) 3 _ (omega arith) from-3
 
-  pub layout-laid : Laid s (headAt s)
+  pub layout-laid : Laid s (shapeIn s)
   layout-laid =
       let from-4 = check-rest (firstOk s) 3 _ (omega arith) from-3 in
-      let from-5 = check-rest (kindsOk s (headAt s)) 4 _ (omega arith) from-4 in
+      let from-5 = check-rest (rolesOk s (groupsOf (shapeIn s))) 4 _ (omega arith) from-4 in
       record {
-        head = first-ranges s layout-first;
-        kinds = check-true (kindsOk s (headAt s)) 4 _ (omega arith) from-4;
-        sizes = check-true (sizesOk s (headAt s)) 5 _ (omega arith) from-5;
+        range = shape-range (shapeIn s) (first-shape s layout-first);
+        roles = check-true (rolesOk s (groupsOf (shapeIn s))) 4 _ (omega arith) from-4;
+        sizes = check-true (sizesOk s (shapeIn s)) 5 _ (omega arith) from-5;
       }
-
--- ---- the answer
-abbrev pub refusedBy : (number : ℕ) → ReadAnswer
-refusedBy number = record { refusal = number; plan = noPlan }
-
-module _ (s : List ℕ) where
-  pub refused-layout : (layoutRefusal s ≡ 0 → ⊥) → readAnswer s ≡ refusedBy (layoutRefusal s)
-  unfolding readAnswer readRefusal
-  refused-layout h = rw (first-some (layoutRefusal s) (refusalOf (numbers (planOf s))) h) (answer-refused refusedBy (layoutRefusal s) _ h)
-
-  module _ (e : layoutRefusal s ≡ 0) where
-    pub refused-plan : (refusalOf (numbers (planOf s)) ≡ 0 → ⊥) → readAnswer s ≡ refusedBy (refusalOf (numbers (planOf s)))
-    unfolding readAnswer readRefusal
-    refused-plan h = rw e (answer-refused refusedBy (refusalOf (numbers (planOf s))) _ h)
-
-    pub accepted : refusalOf (numbers (planOf s)) ≡ 0 → readAnswer s ≡ record { refusal = 0; plan = planOf s }
-    unfolding readAnswer readRefusal
-    accepted f = rw (e, f)

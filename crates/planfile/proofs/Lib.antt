@@ -1,15 +1,17 @@
--- The laws of plan files: Runs of the numbers in a body, Places of the records of a plan and of their lengths, Checks and Filling
--- of the reader, Wrote and WriteAnswers of the writer, Written and Again both round trips, Numbers the numbers that a file is read
--- as, Demand2 what `read` and `write` carry of these, Examples the case L. Walk has the rules of the proofs by hand, over the cursor's `Reader`.
-mod Walk
-pub mod Runs
-pub mod Places
+-- The laws of the plan file. Kind, Groups and Checks are of what specs/ has under these names; Seen says how many records of each role
+-- stand before a place; Filed goes between a file and its records by role, Rows between numbers and a body, Roles between what is held and
+-- its records, role by role, and Length says how long a file is. Trips has both round trips, Answers what a file has that is read,
+-- Demand2 that it is the one file of its plan, Examples the worked case.
+pub mod Kind
+pub mod Groups
 pub mod Checks
-pub mod Filling
-pub mod Wrote
-pub mod WriteAnswers
-pub mod Written
-pub mod Numbers
-pub mod Again
+pub mod Seen
+pub mod Filed
+pub mod Length
+pub mod Size
+pub mod Rows
+pub mod Roles
+pub mod Trips
+pub mod Answers
 pub mod Demand2
 pub mod Examples

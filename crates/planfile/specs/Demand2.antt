@@ -4,11 +4,11 @@ use mathlib.Core.List.{List, _++_}
 use Prim.Native.Nat.{ℕ, _≤_}
 use lib.ListN.{length, drop}
 use Rattle.little_endian.specs.LittleEndian.{Bytes}
-use Rattle.plan.specs.Numbers.{numbers}
 use Rattle.plan.specs.declared.Plan.{Plan}
+use Rattle.plan.specs.Held.{held, planFrom}
+use Rattle.plan.specs.Numbers.{numbers}
 use Rattle.planfile.specs.Read.{readAnswer}
 use Rattle.planfile.specs.Write.{writeAnswer, bufferAfter}
-use Rattle.planfile.specs.Cleared.{cleared}
 
 -- the bytes s are the one file of a plan
 pub record OneFile (s : List ℕ) (plan : Plan) : Type 0 where
@@ -16,7 +16,7 @@ pub record OneFile (s : List ℕ) (plan : Plan) : Type 0 where
   pub written : (buffer : List ℕ) → length s ≤ length buffer → writeAnswer plan buffer ≡ record { refusal = 0; length = length s }
   pub left : (buffer : List ℕ) → length s ≤ length buffer → bufferAfter plan buffer ≡ s ++ drop (length s) buffer
   -- they are read as the plan with zeros past its N, n, q and m, which has the same numbers
-  pub read : readAnswer s ≡ record { refusal = 0; plan = cleared plan }
-  pub same : numbers (cleared plan) ≡ numbers plan
+  pub read : readAnswer s ≡ record { refusal = 0; plan = planFrom (held plan) }
+  pub same : numbers (planFrom (held plan)) ≡ numbers plan
   -- and no other bytes are
-  pub only : (t : List ℕ) → Bytes t → readAnswer t ≡ record { refusal = 0; plan = cleared plan } → t ≡ s
+  pub only : (t : List ℕ) → Bytes t → readAnswer t ≡ record { refusal = 0; plan = planFrom (held plan) } → t ≡ s

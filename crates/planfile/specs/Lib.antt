@@ -1,11 +1,12 @@
--- The plan file: Format says which records it has and what stands in them, Read what a file is read as, with its refusals in
--- their order, Numbers what it means, Write what a plan is written as, Cleared what that file is read as, Demand2 what reading and
--- writing say of each other. Reading and Parts are for the reader's and the writer's own functions.
-pub mod Format
+-- The plan file. Kinds says what each kind of record is, Groups which records stand where, Rows what stands in one record, Records how
+-- what is held and the records say each other; Checks, Read and Write what is read and written, with the refusals in their order; Demand2
+-- what reading and writing say of each other. Reading is for the functions that take a shape or a file that has passed checks.
+pub mod Kinds
+pub mod Groups
+pub mod Rows
+pub mod Checks
+pub mod Records
 pub mod Read
-pub mod Numbers
 pub mod Write
-pub mod Cleared
 pub mod Demand2
 pub mod Reading
-pub mod Parts

@@ -4,25 +4,21 @@ use Prim.Native.Nat.{ℕ}
 use lib.Dec.{leb}
 use lib.ListN.{length}
 use lib.Seq.{sets}
-use Rattle.records.specs.Record.{fileBytes}
+use Rattle.plan.specs.declared.Plan.{Plan}
+use Rattle.plan.specs.Held.{held}
 use Rattle.plan.specs.Numbers.{numbers}
 use Rattle.plan.specs.Refusal.{check, firstOf, answer, refusalOf}
-use Rattle.plan.specs.declared.Plan.{Plan}
 use Rattle.planfile.specs.declared.WriteAnswer.{WriteAnswer}
-use Rattle.planfile.specs.Format.{recordsOf}
-
--- the file of a plan
-unfoldable pub fileOf : Plan → List ℕ
-fileOf plan = fileBytes (recordsOf plan)
+use Rattle.planfile.specs.Records.{fileOf}
 
 module _ (plan : Plan) (buffer : List ℕ) where
   -- 3 and 6 to 9, then 12: the buffer is shorter than the file
   unfoldable pub writeRefusal : ℕ
-  writeRefusal = firstOf (refusalOf (numbers plan)) (check (leb (length (fileOf plan)) (length buffer)) 12 0)
+  writeRefusal = firstOf (refusalOf (numbers plan)) (check (leb (length (fileOf (held plan))) (length buffer)) 12 0)
 
   unfoldable pub writeAnswer : WriteAnswer
-  writeAnswer = answer (λ n. record { refusal = n; length = 0 }) writeRefusal (record { refusal = 0; length = length (fileOf plan) })
+  writeAnswer = answer (λ n. record { refusal = n; length = 0 }) writeRefusal (record { refusal = 0; length = length (fileOf (held plan)) })
 
   -- the buffer after the call: the file stands in its first bytes; on a refusal nothing has changed
   unfoldable pub bufferAfter : List ℕ
-  bufferAfter = answer (λ n. buffer) writeRefusal (sets buffer 0 (fileOf plan))
+  bufferAfter = answer (λ n. buffer) writeRefusal (sets buffer 0 (fileOf (held plan)))

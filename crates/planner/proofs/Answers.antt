@@ -1,5 +1,5 @@
--- What the refusal of a call says, the ways out of a call, what the core's answer tells, and that plans which agree are answered
--- alike.
+-- What the refusal of a call says, the ways out of a call, what the core's answer tells, and that what a plan does not hold plays no
+-- part.
 use mathlib.Core.Path.{_≡_, refl, sym, ap, _∙_}
 use mathlib.Core.Bool.{true, false}
 use Prim.Native.Nat.{ℕ, _≤_}
@@ -8,15 +8,14 @@ use lib.IntN.{ℤ}
 use Rattle.whole.specs.Test.{isFrom}
 use Rattle.whole.proofs.Test.{picked-yes, picked-no, picked-is, from-low, from-high}
 use Rattle.reckoning.specs.Reckoning.{fund}
-use Rattle.reckoning.specs.Arrays.{fundFits, fundAnswer as fundReckoned}
+use Rattle.reckoning.specs.Arrays.{fundFits, fundReckoned}
 use Rattle.reckoning.specs.declared.Reckoned.{Reckoned}
-use Rattle.plan.specs.Numbers.{Numbers, numbers, Agree}
+use Rattle.plan.specs.Held.{Held, held}
+use Rattle.plan.specs.Numbers.{Numbers, meaning, numbers}
 use Rattle.plan.specs.Refusal.{answer, refusalOf, Accepted}
 use Rattle.plan.specs.declared.Plan.{Plan}
-use Rattle.plan.proofs.Numbers.{agree-same}
 use Rattle.plan.proofs.Checks.{check-true, first-some, first-none, first-next, answer-refused, answer-accepted, accepted}
-use Rattle.planner.specs.Calls.{callRefusal, fundAnswer, boundAnswer, formAnswer, gammasAnswer}
-use Rattle.planner.specs.Verdict.{verdictAnswer, judgementOf}
+use Rattle.planner.specs.Calls.{callRefusal}
 
 -- ---- the refusal of a call on pattern t
 module _ (P : Numbers) (t : ℕ) where
@@ -71,23 +70,6 @@ module _ (r : ℕ → ℕ) (i f : ℕ → ℤ) (N : ℕ) {s : Reckoned} (e : s �
   unfolding fundReckoned
   reckoned-is h = ap (λ (s : Reckoned). s .fund) (picked-is (λ (s : Reckoned). s .refusal) _ _ refl (λ z. omega arith) (fundFits r i f N) s e h)
 
--- ---- entries past N, n, q and m play no part in any answer
-module _ (x y : Plan) (h : Agree x y) (t : ℕ) where
-  pub agree-fund : fundAnswer (numbers x) t ≡ fundAnswer (numbers y) t
-  agree-fund = ap (λ (P : Numbers). fundAnswer P t) (agree-same x y h)
-
-  pub agree-bound : boundAnswer (numbers x) t ≡ boundAnswer (numbers y) t
-  agree-bound = ap (λ (P : Numbers). boundAnswer P t) (agree-same x y h)
-
-  pub agree-form : formAnswer (numbers x) t ≡ formAnswer (numbers y) t
-  agree-form = ap (λ (P : Numbers). formAnswer P t) (agree-same x y h)
-
-  pub agree-gammas : gammasAnswer (numbers x) t ≡ gammasAnswer (numbers y) t
-  agree-gammas = ap (λ (P : Numbers). gammasAnswer P t) (agree-same x y h)
-
-module _ (x y : Plan) (h : Agree x y) where
-  pub agree-verdict : verdictAnswer (numbers x) ≡ verdictAnswer (numbers y)
-  agree-verdict = ap verdictAnswer (agree-same x y h)
-
-  pub agree-judgement : judgementOf (numbers x) ≡ judgementOf (numbers y)
-  agree-judgement = ap judgementOf (agree-same x y h)
+-- ---- plans that hold the same are answered alike: no answer sees more of a plan than its numbers
+pub answered-alike : {A : Type 0} (answered : Numbers → A) (x y : Plan) → held x ≡ held y → answered (numbers x) ≡ answered (numbers y)
+answered-alike answered x y = ap (λ (H : Held). answered (meaning H))

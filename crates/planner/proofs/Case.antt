@@ -13,20 +13,20 @@ use Rattle.reckoning.specs.Reckoning.{w, paid, flow, sent, alpha-step, alpha, f
 use Rattle.reckoning.specs.Bound.{h, ceiling, G, B}
 use Rattle.reckoning.specs.Case.{boundCases, gammaCases}
 use Rattle.reckoning.proofs.Case.{bounds-agree, gammas-agree}
-use Rattle.plan.specs.Numbers.{paymentsOf, outflowsOf, rolloverOf, ratesOf, allocationOf}
+use Rattle.plan.specs.Held.{instrumentsHeld, outflowsHeld, rolloverHeld, patternsHeld, allocationHeld}
 use Rattle.plan.specs.Case.{nearL, planL, oneYear}
-use Rattle.planner.specs.Calls.{flowOf, boundOf}
-use Rattle.planner.specs.Verdict.{wordOf, fundOf, patternWord}
+use Rattle.planner.specs.Calls.{flowOf, fundAt, boundAt}
+use Rattle.planner.specs.Verdict.{wordOf, wordAt, fundOf, patternWord}
 use Rattle.planner.specs.Case.{fundCases, wordCases, starredCases}
 
 funds-agree : agree fundCases ≡ true
-unfolding agree fundCases isSame isBetween fundOf flowOf paymentsOf outflowsOf rolloverOf ratesOf allocationOf fund alpha alpha-step sent flow paid w floor shareOf
-    sum sumℕ course history nth cut entry planL nearL
+unfolding agree fundCases isSame isBetween fundOf fundAt flowOf instrumentsHeld outflowsHeld rolloverHeld patternsHeld allocationHeld fund alpha alpha-step sent flow paid w floor
+    shareOf sum sumℕ course history nth cut entry planL nearL
 funds-agree = refl
 
 words-agree : agree wordCases ≡ true
-unfolding agree wordCases isSame isBetween patternWord wordOf fundOf boundOf flowOf paymentsOf outflowsOf rolloverOf ratesOf allocationOf fund alpha alpha-step sent
-    flow paid w floor shareOf h ceiling G B sum sumℕ largest course history nth cut entry oneYear
+unfolding agree wordCases isSame isBetween patternWord wordAt wordOf fundAt boundAt flowOf instrumentsHeld outflowsHeld rolloverHeld patternsHeld allocationHeld fund alpha
+    alpha-step sent flow paid w floor shareOf h ceiling G B sum sumℕ largest course history nth cut entry oneYear
 words-agree = refl
 
 all-agree : agree starredCases ≡ true

@@ -1,99 +1,84 @@
--- The form that the coefficients and the constant of a plan make, at the rates i.
+-- The form that the coefficients and the constant make, at the rates i.
 use mathlib.Core.Path.{_≡_, sym, ap, ap₂, _∙_}
-use mathlib.Core.Bool.{true}
+use mathlib.Core.List.{List}
 use Prim.Native.Nat.{ℕ, _+_, _*_, _<_}
 use native.Mathlib.Omega.{arith}
 use lib.ListN.{getD}
-use lib.IntN.{ℤ, pos, negℤ, _+ℤ_, _*ℤ_}
+use lib.IntN.{ℤ, pos, _+ℤ_, _*ℤ_}
 use mir.Syntax.{w64}
 use mir.Val.{SFits}
 use Rattle.whole.specs.Range.{million, limit, Within}
 use Rattle.whole.specs.Floor.{floor}
-use Rattle.whole.specs.Sum.{sum}
-use Rattle.whole.specs.Table.{table}
 use Rattle.whole.proofs.Range.{within-add, within-fits}
 use Rattle.whole.proofs.Floor.{floor-within}
 use Rattle.whole.proofs.Sum.{Σℤ-from}
 use Rattle.whole.proofs.Test.{both-second, both-not, all-at, between-fact}
 use Rattle.whole.proofs.Table.{table-at}
-use Rattle.reckoning.specs.Reckoning.{fund}
-use Rattle.reckoning.specs.Bound.{K, Q, value}
-use Rattle.reckoning.specs.Arrays.{alphasFit, fundFits, fundAnswer}
+use Rattle.reckoning.specs.Bound.{value}
+use Rattle.reckoning.specs.Arrays.{alphasFit, fundFits, fundReckoned}
 use Rattle.reckoning.specs.declared.Reckoned.{Reckoned}
-use Rattle.plan.specs.Numbers.{Numbers, numbers}
-use Rattle.plan.specs.Refusal.{Accepted}
-use Rattle.plan.specs.declared.Plan.{Plan}
-use Rattle.plan.proofs.Numbers.{allocation-is}
-use Rattle.planner.specs.Calls.{noForm, coefficientsFit, constantFits, formOf, formReckoned}
-use Rattle.planner.specs.Arrays.{fundsReckoned, Weighable}
+use Rattle.planner.specs.Calls.{Shared, noForm, coefficientAt, constantAt, valueAt, coefficientsFit, constantFits, coefficientsAt, formReckoned}
+use Rattle.planner.specs.Arrays.{sharedIn, Weighable, Prepared}
+use Rattle.planner.specs.Rows.{coefficientsReckoned}
+use Rattle.planner.specs.declared.Common.{Common}
 use Rattle.planner.specs.declared.Coefficients.{Coefficients}
-use Rattle.planner.proofs.Held.{allocation-parts}
-use Rattle.planner.proofs.FormLoops.{funds-refused, funds-fit, funds-are}
+use Rattle.planner.proofs.Weighing.{weighedBy}
+use Rattle.planner.proofs.ArrayLoops.{part-at}
+use Rattle.planner.proofs.FormLoops.{coefficients-refused, coefficients-fit, coefficients-are}
 use Rattle.planner.proofs.Answers.{reckoned-refused, reckoned-fits, reckoned-is}
 
+-- ---- Q
+pub constant-is : (S : Shared) (i : ℕ → ℤ) {d : Reckoned} → d ≡ fundReckoned (S .r) i (S .constantFlow) (S .years) → d .refusal ≡ 0 → d .fund ≡ constantAt S i
+unfolding constantAt
+constant-is S i = reckoned-is (S .r) i (S .constantFlow) (S .years)
+
 -- ---- the ways out
-module _ (P : Numbers) (i : ℕ → ℤ) where
-  abbrev Kⱼ : (j : ℕ) → ℤ
-  Kⱼ j = K (P .a) (P .o) (P .r) i (P .years) (1 + j)
+module _ (S : Shared) (i : ℕ → ℤ) {c : Coefficients} (e : c ≡ coefficientsReckoned S i) where
+  pub form-unmade : (c .refusal ≡ 0 → ⊥) → noForm 11 ≡ formReckoned S i
+  unfolding formReckoned
+  form-unmade h = rw (coefficients-refused S i e h)
 
-  -- the funds of the instruments
-  abbrev pub coefficientsOf : Coefficients
-  coefficientsOf = fundsReckoned (P .r) i (P .years) (P .instruments) (λ j k. P .a k (1 + j))
-
-  module _ {c : Coefficients} (e : c ≡ coefficientsOf) where
-    pub coefficients-refused : (c .refusal ≡ 0 → ⊥) → noForm 11 ≡ formReckoned P i
-    unfolding formReckoned coefficientsFit
-    coefficients-refused h = rw (funds-refused (P .r) i (λ j k. P .a k (1 + j)) (P .years) (P .instruments) e h)
-
-    pub coefficients-fit : c .refusal ≡ 0 → coefficientsFit P i ≡ true
-    unfolding coefficientsFit
-    coefficients-fit = funds-fit (P .r) i (λ j k. P .a k (1 + j)) (P .years) (P .instruments) e
-
-    pub coefficients-are : c .refusal ≡ 0 → c .values ≡ table 16 (P .instruments) Kⱼ (pos 0)
-    unfolding K
-    coefficients-are = funds-are (P .r) i (λ j k. P .a k (1 + j)) (P .years) (P .instruments) e
-
-  module _ {d : Reckoned} (e : d ≡ fundAnswer (P .r) i (λ k. negℤ (P .o k)) (P .years)) where
-    pub constant-refused : (d .refusal ≡ 0 → ⊥) → noForm 11 ≡ formReckoned P i
+  module _ {d : Reckoned} (u : d ≡ fundReckoned (S .r) i (S .constantFlow) (S .years)) where
+    pub form-unbalanced : (d .refusal ≡ 0 → ⊥) → noForm 11 ≡ formReckoned S i
     unfolding formReckoned constantFits
-    constant-refused h = rw (reckoned-refused (P .r) i (λ k. negℤ (P .o k)) (P .years) e h, both-not (coefficientsFit P i))
+    form-unbalanced h = rw (reckoned-refused (S .r) i (S .constantFlow) (S .years) u h, both-not (coefficientsFit S i))
 
-    pub constant-of : d .refusal ≡ 0 → d .fund ≡ Q (P .a) (P .o) (P .r) i (P .years)
-    unfolding Q
-    constant-of = reckoned-is (P .r) i (λ k. negℤ (P .o k)) (P .years) e
+    pub form-made : c .refusal ≡ 0 → d .refusal ≡ 0 → {z : ℤ} → z ≡ valueAt S i → record { refusal = 0; coefficients = c .values; constant = d .fund; value = z } ≡ formReckoned S i
+    unfolding formReckoned constantFits
+    form-made g h z-is = rw (
+      coefficients-fit S i e g,
+      reckoned-fits (S .r) i (S .constantFlow) (S .years) u h,
+      coefficients-are S i e g,
+      constant-is S i u h,
+      z-is,
+    )
 
-    pub form-made : {c : Coefficients} {z : ℤ} → c ≡ coefficientsOf → c .refusal ≡ 0 → d .refusal ≡ 0 → z ≡ value (P .a) (P .o) (P .r) i (P .years) (P .instruments) (P .p) →
-        record { refusal = 0; coefficients = c .values; constant = d .fund; value = z } ≡ formReckoned P i
-    unfolding formReckoned formOf constantFits
-    form-made f g h z-is =
-        rw (coefficients-fit f g, reckoned-fits (P .r) i (λ k. negℤ (P .o k)) (P .years) e h, coefficients-are f g, constant-of h, z-is)
+-- ---- the value at the allocation
+module _ {common : Common} {rows : List (List ℤ)} (ok : Prepared common rows) (i : ℕ → ℤ) {c : Coefficients} (e : c ≡ coefficientsReckoned (sharedIn common rows) i) (none : c .refusal ≡ 0) where
+  abbrev S : Shared
+  S = sharedIn common rows
 
--- ---- the value at the plan's allocation
-module _ (plan : Plan) (ok : Accepted (numbers plan)) (i : ℕ → ℤ) {c : Coefficients} (e : c ≡ coefficientsOf (numbers plan) i) (none : c .refusal ≡ 0) where
-  coefficient-at : (j : ℕ) → j < plan .instruments → getD (c .values) j (pos 0) ≡ Kⱼ (numbers plan) i j
-  coefficient-at j l = rw (coefficients-are (numbers plan) i e none) (table-at 16 (plan .instruments) (Kⱼ (numbers plan) i) (pos 0) (pos 0) j l (ok .head .instruments-few))
+  coefficient-at : (j : ℕ) → j < common .instruments → getD (c .values) j (pos 0) ≡ coefficientAt S i (1 + j)
+  unfolding coefficientsAt
+  coefficient-at j l = rw (coefficients-are S i e none) (table-at 16 (common .instruments) (λ j. coefficientAt S i (1 + j)) (pos 0) (pos 0) j l (ok .few))
 
-  coefficient-within : (j : ℕ) → j < plan .instruments → Within limit (Kⱼ (numbers plan) i j)
-  unfolding K coefficientsFit fundFits
-  coefficient-within j l = between-fact _ _ _ (both-second (alphasFit (numbers plan .r) i (λ k. numbers plan .a k (1 + j)) (plan .years)) _ (all-at (plan .instruments) _ j l (coefficients-fit (numbers plan) i e none)))
+  coefficient-within : (j : ℕ) → j < common .instruments → Within limit (coefficientAt S i (1 + j))
+  unfolding coefficientAt coefficientsFit fundFits
+  coefficient-within j l = between-fact _ _ _ (both-second (alphasFit (S .r) i (λ k. S .a k (1 + j)) (S .years)) _ (all-at (common .instruments) _ j l (coefficients-fit S i e none)))
 
-  pub weighable : Weighable (plan .instruments) (c .values) (plan .allocation)
+  pub weighable : Weighable (common .instruments) (c .values) (common .allocation)
   weighable = record {
-    few = ok .head .instruments-few;
+    few = ok .few;
     amount = λ j l. rw (coefficient-at j l) (coefficient-within j l);
-    parts = allocation-parts plan ok;
+    parts = ok .parts;
   }
 
-  -- the sum of the coefficients, each times its part
-  abbrev weighs : ℕ → ℤ
-  weighs j = getD (c .values) j (pos 0) *ℤ pos (getD (plan .allocation) j 0)
-
-  pub value-is : {d z q : ℤ} → d ≡ floor z million → z ≡ sum (plan .instruments) weighs → q ≡ Q (numbers plan .a) (numbers plan .o) (numbers plan .r) i (plan .years) →
-      d +ℤ q ≡ value (numbers plan .a) (numbers plan .o) (numbers plan .r) i (plan .years) (plan .instruments) (numbers plan .p)
-  unfolding value
+  -- the sum of the coefficients, each times its part, in whole amounts, and Q
+  pub value-is : {d z q : ℤ} → d ≡ floor z million → z ≡ weighedBy (common .allocation) (common .instruments) (c .values) → q ≡ constantAt S i → d +ℤ q ≡ valueAt S i
+  unfolding valueAt value
   value-is e f g =
-      let terms = Σℤ-from 1 (plan .instruments) (plan .instruments) (λ j. K (numbers plan .a) (numbers plan .o) (numbers plan .r) i (plan .years) j *ℤ pos (numbers plan .p j)) weighs (omega arith)
-      (λ j l. ap₂ (λ (x : ℤ) (p : ℕ). x *ℤ pos p) (sym (coefficient-at j l)) (allocation-is plan j l)) in
+      let terms = Σℤ-from 1 (common .instruments) (common .instruments) (λ j. coefficientAt S i j *ℤ pos (S .p j)) _ (omega arith)
+      (λ j l. ap₂ (λ (x : ℤ) (p : ℕ). x *ℤ pos p) (sym (coefficient-at j l)) (part-at ok j l)) in
       ap₂ _+ℤ_ (e ∙ ap (λ (z : ℤ). floor z million) (f ∙ sym terms)) g
 
 -- it fits a machine's word

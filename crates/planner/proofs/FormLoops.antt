@@ -1,5 +1,5 @@
 -- The loop of the coefficients: the funds of n flows, one after the other, unless check 11 refuses one.
-use mathlib.Core.Path.{_≡_, refl, ap}
+use mathlib.Core.Path.{_≡_, refl, sym, ap, _∙_, fun-ext}
 use mathlib.Core.Bool.{true, false}
 use mathlib.Core.List.{List}
 use Prim.Native.Nat.{ℕ, _+_, _≤_, _<_}
@@ -7,14 +7,14 @@ use native.Mathlib.Omega.{arith}
 use lib.ListN.{set, replicate}
 use lib.IntN.{ℤ, pos}
 use Rattle.whole.specs.Test.{all}
-use Rattle.whole.specs.Table.{table}
-use Rattle.whole.proofs.Test.{picked-yes, picked-no, picked-is, all-none, all-more, all-end, all-fails}
+use Rattle.whole.proofs.Filling.{Filling, fill-start, fill-turn, fill-as}
+use Rattle.whole.proofs.Test.{picked-yes, picked-no, picked-is, all-none, all-more, all-end, all-fails, all-cong}
 use Rattle.reckoning.specs.Reckoning.{fund}
-use Rattle.reckoning.specs.Arrays.{fundFits, fundAnswer}
+use Rattle.reckoning.specs.Arrays.{fundFits, fundReckoned}
 use Rattle.reckoning.specs.declared.Reckoned.{Reckoned}
-use Rattle.planner.specs.Arrays.{fundsReckoned}
+use Rattle.planner.specs.Calls.{Shared, coefficientAt, coefficientsFit, coefficientsAt}
+use Rattle.planner.specs.Rows.{coefficientsReckoned}
 use Rattle.planner.specs.declared.Coefficients.{Coefficients}
-use Rattle.planner.proofs.ArrayLoops.{Filling, fill-start, fill-turn, fill-end}
 use Rattle.planner.proofs.Answers.{reckoned-refused, reckoned-fits, reckoned-is}
 
 -- k has the funds of the flows f 0 to f (j - 1), and check 11 takes them
@@ -22,35 +22,46 @@ pub record Funded (r : ℕ → ℕ) (i : ℕ → ℤ) (f : ℕ → ℕ → ℤ) 
   pub filled : Filling 16 n (λ j. fund r i N (f j)) (pos 0) k j
   pub fit : all j (λ j. fundFits r i (f j) N) ≡ true
 
-module _ (r : ℕ → ℕ) (i : ℕ → ℤ) (f : ℕ → ℕ → ℤ) (N n : ℕ) where
-  pub funds-start : Funded r i f N n (replicate 16 (pos 0)) 0
-  funds-start = record { filled = fill-start; fit = all-none _ }
+pub funds-start : {r : ℕ → ℕ} {i : ℕ → ℤ} {f : ℕ → ℕ → ℤ} {N n : ℕ} → Funded r i f N n (replicate 16 (pos 0)) 0
+funds-start = record { filled = fill-start; fit = all-none _ }
 
-  module _ {j : ℕ} (l : j < n) {s : Reckoned} (e : s ≡ fundAnswer r i (f j) N) where
-    pub funds-turn : {k : List ℤ} → n ≤ 16 → Funded r i f N n k j → s .refusal ≡ 0 → Funded r i f N n (set k j (s .fund)) (j + 1)
-    funds-turn few a h = record {
-      filled = fill-turn few l (a .filled) (reckoned-is r i (f j) N e h);
-      fit = all-more j (λ j. fundFits r i (f j) N) (a .fit) (reckoned-fits r i (f j) N e h);
-    }
+module _ {r : ℕ → ℕ} {i : ℕ → ℤ} {f : ℕ → ℕ → ℤ} {N n j : ℕ} where
+  pub funds-turn : {k : List ℤ} {s : Reckoned} → n ≤ 16 → j < n → Funded r i f N n k j → s ≡ fundReckoned r i (f j) N → s .refusal ≡ 0 → Funded r i f N n (set k j (s .fund)) (j + 1)
+  funds-turn few l a e h = record {
+    filled = fill-turn few l (a .filled) (reckoned-is r i (f j) N e h);
+    fit = all-more j (λ j. fundFits r i (f j) N) (a .fit) (reckoned-fits r i (f j) N e h);
+  }
 
-    pub funds-refuse : (s .refusal ≡ 0 → ⊥) → record { refusal = 11; values = replicate 16 (pos 0) } ≡ fundsReckoned r i N n f
-    unfolding fundsReckoned
-    funds-refuse h = rw (all-fails n (λ j. fundFits r i (f j) N) j l (reckoned-refused r i (f j) N e h))
+-- ---- the flows are the payments of the instruments
+module _ (S : Shared) (i : ℕ → ℤ) {f : ℕ → ℕ → ℤ} (same : (j : ℕ) → j < S .instruments → (k : ℕ) → S .a k (1 + j) ≡ f j k) where
+  flow-same : (j : ℕ) → j < S .instruments → f j ≡ (λ k. S .a k (1 + j))
+  flow-same j h = fun-ext (λ k. sym (same j h k))
 
-  pub funds-end : {k : List ℤ} {j : ℕ} → n ≤ j → Funded r i f N n k j → record { refusal = 0; values = k } ≡ fundsReckoned r i N n f
-  unfolding fundsReckoned
-  funds-end l a = rw (fill-end l (a .filled), all-end n (λ j. fundFits r i (f j) N) (a .filled .upto) l (a .fit))
+  all-fit : all (S .instruments) (λ j. fundFits (S .r) i (f j) (S .years)) ≡ coefficientsFit S i
+  unfolding coefficientsFit
+  all-fit = all-cong (S .instruments) _ _ (λ j h. ap (λ (f : ℕ → ℤ). fundFits (S .r) i f (S .years)) (flow-same j h))
 
-  -- ---- what such an answer tells
-  module _ {c : Coefficients} (e : c ≡ fundsReckoned r i N n f) where
-    pub funds-refused : (c .refusal ≡ 0 → ⊥) → all n (λ j. fundFits r i (f j) N) ≡ false
-    unfolding fundsReckoned
-    funds-refused = picked-no (λ (c : Coefficients). c .refusal) _ _ refl (λ z. omega arith) (all n (λ j. fundFits r i (f j) N)) c e
+  pub funds-refuse : {j : ℕ} → j < S .instruments → {s : Reckoned} → s ≡ fundReckoned (S .r) i (f j) (S .years) → (s .refusal ≡ 0 → ⊥) → record { refusal = 11; values = replicate 16 (pos 0) } ≡ coefficientsReckoned S i
+  unfolding coefficientsReckoned
+  funds-refuse {j} l e h = rw (sym all-fit ∙ all-fails (S .instruments) (λ j. fundFits (S .r) i (f j) (S .years)) j l (reckoned-refused (S .r) i (f j) (S .years) e h))
 
-    pub funds-fit : c .refusal ≡ 0 → all n (λ j. fundFits r i (f j) N) ≡ true
-    unfolding fundsReckoned
-    funds-fit = picked-yes (λ (c : Coefficients). c .refusal) _ _ refl (λ z. omega arith) (all n (λ j. fundFits r i (f j) N)) c e
+  pub funds-end : {k : List ℤ} {j : ℕ} → S .instruments ≤ j → Funded (S .r) i f (S .years) (S .instruments) k j → record { refusal = 0; values = k } ≡ coefficientsReckoned S i
+  unfolding coefficientsReckoned coefficientsAt coefficientAt
+  funds-end l a = rw (
+    fill-as l (a .filled) (λ j h. ap (fund (S .r) i (S .years)) (flow-same j h)),
+    sym all-fit ∙ all-end (S .instruments) (λ j. fundFits (S .r) i (f j) (S .years)) (a .filled .upto) l (a .fit),
+  )
 
-    pub funds-are : c .refusal ≡ 0 → c .values ≡ table 16 n (λ j. fund r i N (f j)) (pos 0)
-    unfolding fundsReckoned
-    funds-are h = ap (λ (c : Coefficients). c .values) (picked-is (λ (c : Coefficients). c .refusal) _ _ refl (λ z. omega arith) (all n (λ j. fundFits r i (f j) N)) c e h)
+-- ---- what such an answer tells
+module _ (S : Shared) (i : ℕ → ℤ) {c : Coefficients} (e : c ≡ coefficientsReckoned S i) where
+  pub coefficients-refused : (c .refusal ≡ 0 → ⊥) → coefficientsFit S i ≡ false
+  unfolding coefficientsReckoned
+  coefficients-refused = picked-no (λ (c : Coefficients). c .refusal) _ _ refl (λ z. omega arith) (coefficientsFit S i) c e
+
+  pub coefficients-fit : c .refusal ≡ 0 → coefficientsFit S i ≡ true
+  unfolding coefficientsReckoned
+  coefficients-fit = picked-yes (λ (c : Coefficients). c .refusal) _ _ refl (λ z. omega arith) (coefficientsFit S i) c e
+
+  pub coefficients-are : c .refusal ≡ 0 → c .values ≡ coefficientsAt S i
+  unfolding coefficientsReckoned
+  coefficients-are h = ap (λ (c : Coefficients). c .values) (picked-is (λ (c : Coefficients). c .refusal) _ _ refl (λ z. omega arith) (coefficientsFit S i) c e h)

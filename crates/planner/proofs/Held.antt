@@ -1,137 +1,194 @@
 -- The arrays that the code prepares hold the numbers of an accepted plan: read by the papers' index, each is the plan's own
 -- function, and the core takes them.
-use mathlib.Core.Path.{_≡_, sym, ap, ap₂, _∙_, fun-ext}
+use mathlib.Core.Path.{_≡_, refl, sym, ap, ap₂, _∙_, subst, fun-ext}
+use mathlib.Core.Logic.{⊎-elim}
 use mathlib.Core.List.{List, []}
-use Prim.Native.Nat.{ℕ, suc, _+_, _-_, _*_, _≤_, _<_}
+use Prim.Native.Nat.{ℕ, zero, suc, _+_, _-_, _*_, _≤_, _<_}
 use native.Mathlib.Nat.{le-of-eq}
 use native.Mathlib.Omega.{arith}
 use lib.ListN.{getD}
-use lib.IntN.{ℤ, pos, natAbs, negℤ, _-ℤ_, _*ℤ_, zero-*ℤ}
+use lib.IntN.{ℤ, pos, natAbs, negℤ, _+ℤ_, _*ℤ_, zero-*ℤ}
 use Rattle.whole.specs.Range.{million, limit, Between, Within}
 use Rattle.whole.specs.Floor.{floor}
 use Rattle.whole.specs.Sum.{sumℕ}
 use Rattle.whole.specs.Table.{table}
+use Rattle.whole.specs.Entry.{nth, entry}
 use Rattle.whole.proofs.Bridge.{whole}
-use Rattle.whole.proofs.Range.{within-more, within-sub, within-neg}
+use Rattle.whole.proofs.Laws.{ℕ-cases}
+use Rattle.whole.proofs.Range.{within-more, within-add, within-neg}
 use Rattle.whole.proofs.Floor.{floor-within}
 use Rattle.whole.proofs.Sum.{Σℕ-from, sum-zeros, sum-within-parts, sumℕ-one}
 use Rattle.whole.proofs.Table.{table-at, table-each, table-cong}
-use Rattle.whole.proofs.Entry.{nth-table, entry-cong, table-held}
+use Rattle.whole.proofs.Entry.{entry-in, entry-past, entry-zero, entry-beyond, entry-cong, table-held}
 use Rattle.reckoning.specs.Reckoning.{paid, flow}
-use Rattle.reckoning.specs.Arrays.{sharesOf, ratesOf, amountsOf, Years, Terms, Rates, Amounts, weightsOf, Ready}
-use Rattle.plan.specs.Numbers.{Numbers, rateAt, numbers}
+use Rattle.reckoning.specs.Arrays.{sharesOf, ratesOf, amountsOf, Years, Terms, Rates, Amounts, weightsOf, Ready, fundReckoned}
+use Rattle.plan.specs.Held.{HeldInstrument, unheldInstrument, patternHeld, patternAt, allocationHeld, held}
+use Rattle.plan.specs.Numbers.{Numbers, ratesMeant, numbers}
 use Rattle.plan.specs.Refusal.{most, Accepted}
 use Rattle.plan.specs.declared.Plan.{Plan}
-use Rattle.plan.proofs.Numbers.{payment-before, payment-past, outflow-before, outflow-past, rollover-before, allocation-is, pattern-is, rate-is}
-use Rattle.planner.specs.Calls.{flowOf}
-use Rattle.planner.specs.Arrays.{rolloverArray, ratesArray, flowArray, outflowArray, paymentsRow, paymentsRows}
+use Rattle.plan.proofs.Held.{payment-before, payment-past, outflow-before, outflow-past, rollover-before, allocation-is, pattern-is, pattern-each, tidy-held}
+use Rattle.planner.specs.Calls.{Shared, sharedOf, flowOf, flowReckoned}
+use Rattle.planner.specs.Arrays.{rolloverArray, ratesArray, constantArray, paymentsRow, paymentsRows, commonOf, sharedIn, flowArray, Prepared}
+use Rattle.planner.specs.declared.Common.{Common}
 
--- ---- what the allocation pays, instrument after instrument, and the flow that is left of it
+-- ---- the flow of Q, what the allocation pays, instrument after instrument, and the flow of both
 module _ {P : Numbers} (ok : Accepted P) where
-  pub payment-within : (k j : ℕ) → Within most (P .a k j)
+  payment-within : (k j : ℕ) → Within most (P .a k j)
   payment-within k j = omega (whole, ok .payments k j)
 
+  pub constant-within : (k : ℕ) → Within most (sharedOf P .constantFlow k)
+  constant-within k = within-neg (ok .outflows k)
+
   -- the parts come to 1,000,000, so the instruments together pay within the most that one may
-  pub paid-within : (k : ℕ) → Within (most * million) (paid (P .instruments) (P .a) (P .p) k)
+  paid-within : (k : ℕ) → Within (most * million) (paid (P .instruments) (P .a) (P .p) k)
   unfolding paid
   paid-within k = sum-within-parts (suc (P .instruments) - 1) most million (λ j. P .a k (1 + j)) (λ j. P .p (1 + j)) (λ j l. payment-within k (1 + j)) (le-of-eq (ok .allocation))
 
-  pub flow-within : (k : ℕ) → Within (most + most) (flowOf P k)
+  flow-within : (k : ℕ) → Within limit (flowOf (sharedOf P) k)
   unfolding flowOf flow
-  flow-within k = within-sub (floor-within most {m = million} (omega arith) (paid-within k)) (ok .outflows k)
+  flow-within k = within-more (omega arith) (within-add (floor-within most {m = million} (omega arith) (paid-within k)) (constant-within k))
 
-no-flow : (P : Numbers) (k : ℕ) → ((j : ℕ) → P .a k j ≡ pos 0) → P .o k ≡ pos 0 → flowOf P k ≡ pos 0
+no-flow : (S : Shared) (k : ℕ) → ((j : ℕ) → S .a k j ≡ pos 0) → S .constantFlow k ≡ pos 0 → flowOf S k ≡ pos 0
 unfolding flowOf flow paid floor
-no-flow P k none e = ap₂ (λ (s o : ℤ). floor s million -ℤ o)
-    (sum-zeros (suc (P .instruments) - 1) _ (λ j l. ap (λ (z : ℤ). z *ℤ pos (P .p (1 + j))) (none (1 + j)) ∙ zero-*ℤ (pos (P .p (1 + j)))))
+no-flow S k none e = ap₂ (λ (s c : ℤ). floor s million +ℤ c)
+    (sum-zeros (suc (S .instruments) - 1) _ (λ j l. ap (λ (z : ℤ). z *ℤ pos (S .p (1 + j))) (none (1 + j)) ∙ zero-*ℤ (pos (S .p (1 + j)))))
     e
 
+-- the flow of Q is 0 before year 1 and past year N
+constant-before : (plan : Plan) → sharedOf (numbers plan) .constantFlow 0 ≡ pos 0
+constant-before plan = ap negℤ (outflow-before plan)
+
+constant-past : (plan : Plan) (k : ℕ) → plan .years < k → sharedOf (numbers plan) .constantFlow k ≡ pos 0
+constant-past plan k l = ap negℤ (outflow-past plan k l)
+
+-- a function of an entry
+entry-of : {A B : Type 0} (g : A → B) (z : A) (n : ℕ) (f : ℕ → A) (j : ℕ) → entry (g z) n (λ j. g (f j)) j ≡ g (entry z n f j)
+unfolding entry
+entry-of g z n f zero = refl
+entry-of g z n f (suc j) = ⊎-elim
+    (λ (l : j < n). entry-in (g z) n (λ j. g (f j)) j l ∙ sym (ap g (entry-in z n f j l)))
+    (λ (l : n ≤ j). entry-past (g z) n (λ j. g (f j)) j l ∙ sym (ap g (entry-past z n f j l)))
+    (ℕ-cases j n)
+
+-- the rates that a pattern means
+pub rates-array : (plan : Plan) (t : ℕ) → t < plan .patterns → ratesMeant (plan .years) (patternHeld (plan .years) (patternAt plan t)) ≡ ratesArray (numbers plan) (1 + t)
+unfolding ratesArray
+rates-array plan t h = ap (ratesMeant (plan .years)) (sym (pattern-is plan t h))
+
 module _ (plan : Plan) (ok : Accepted (numbers plan)) where
+  abbrev P : Numbers
+  P = numbers plan
+
   pub years : Years (plan .years)
   years = record { some = ok .head .years-some; few = ok .head .years-few }
 
-  pub allocation-parts : sumℕ (plan .instruments) (λ j. getD (plan .allocation) j 0) ≤ million
-  allocation-parts = le-of-eq (sym (Σℕ-from 1 (plan .instruments) (plan .instruments) (numbers plan .p) _ (omega arith) (allocation-is plan)) ∙ ok .allocation)
+  allocation-parts : sumℕ (plan .instruments) (λ j. getD (plan .allocation) j 0) ≤ million
+  allocation-parts = le-of-eq (sym (Σℕ-from 1 (plan .instruments) (plan .instruments) (P .p) _ (omega arith) (allocation-is plan)) ∙ ok .allocation)
 
   -- ---- what each array is by the papers' index
-  pub rollover-held : sharesOf (rolloverArray (numbers plan)) ≡ numbers plan .r
+  pub rollover-held : sharesOf (rolloverArray P) ≡ P .r
   unfolding sharesOf rolloverArray
-  rollover-held = fun-ext (λ d. ap natAbs (table-held (pos 0) (λ d. pos (numbers plan .r d)) (ok .head .terms-few) (ap pos (rollover-before plan)) (λ d l. ap pos (ok .rollover-past d l)) d))
+  rollover-held = fun-ext (λ d. ap natAbs (table-held (pos 0) (λ d. pos (P .r d)) (ok .head .terms-few) (ap pos (rollover-before plan)) (λ d l. ap pos (ok .rollover-past d l)) d))
 
-  pub rates-held : (t : ℕ) → 1 ≤ t → t ≤ plan .patterns → ratesOf (ratesArray (numbers plan) t) ≡ numbers plan .i t
+  rates-held : (t : ℕ) → ratesOf (ratesArray P t) ≡ P .i t
   unfolding ratesOf ratesArray
-  rates-held t some few =
-      let e : t ≡ 1 + (t - 1) = omega arith in
-      let h : t - 1 < plan .patterns = omega arith in
-      rw e (fun-ext (λ l.
-      nth-table (pos 0) (plan .years - 1) (λ l. numbers plan .i (1 + (t - 1)) (2 + l)) 30 (omega (arith, ok .head .years-few)) (l - 1)
-      ∙ entry-cong (pos 0) (plan .years - 1) _ (rateAt plan (t - 1)) (λ k m. rate-is plan (t - 1) k h m) (l - 1)
-      ∙ sym (pattern-is plan (t - 1) l h)))
+  rates-held t =
+      let rate : ℕ → ℤ = held plan .pattern t .rate in
+      let same : (l : ℕ) → 2 + l - 1 ≡ 1 + l = λ l. omega arith in
+      let none = pattern-each plan (λ i. i .rate 0 ≡ pos 0) refl (λ t h. entry-zero (pos 0) (plan .years - 1) _) t in
+      let past : (l : ℕ) → plan .years - 1 < l → rate l ≡ pos 0 = λ l b. pattern-each plan (λ i. i .rate l ≡ pos 0) refl (λ t h. entry-beyond (pos 0) (plan .years - 1) _ l b) t in
+      fun-ext (λ l.
+      ap (λ (v : List ℤ). nth (pos 0) v (l - 1)) (table-cong 30 (plan .years - 1) _ (λ l. rate (1 + l)) (pos 0) (λ l b. ap rate (same l)))
+      ∙ table-held (pos 0) rate {m = 30} (omega (arith, ok .head .years-few)) none past (l - 1))
 
-  -- a pattern's rates as they are held
-  pub rates-array : (t : ℕ) → t < plan .patterns → table 30 (plan .years - 1) (rateAt plan t) (pos 0) ≡ ratesArray (numbers plan) (1 + t)
-  unfolding ratesArray
-  rates-array t h = table-cong 30 (plan .years - 1) _ _ (pos 0) (λ l m. sym (rate-is plan t l h m))
+  constant-held : amountsOf (constantArray P) ≡ sharedOf P .constantFlow
+  unfolding amountsOf constantArray
+  constant-held = fun-ext (table-held (pos 0) (sharedOf P .constantFlow) (ok .head .years-few) (constant-before plan) (constant-past plan))
 
-  pub flow-held : amountsOf (flowArray (numbers plan)) ≡ flowOf (numbers plan)
+  flow-held : amountsOf (flowArray (sharedOf P)) ≡ flowOf (sharedOf P)
   unfolding amountsOf flowArray
-  flow-held = fun-ext (table-held (pos 0) (flowOf (numbers plan)) (ok .head .years-few)
-      (no-flow (numbers plan) 0 (payment-before plan) (outflow-before plan))
-      (λ k l. no-flow (numbers plan) k (λ j. payment-past plan k j l) (outflow-past plan k l)))
-
-  pub outflow-held : amountsOf (outflowArray (numbers plan)) ≡ (λ k. negℤ (numbers plan .o k))
-  unfolding amountsOf outflowArray
-  outflow-held = fun-ext (table-held (pos 0) (λ k. negℤ (numbers plan .o k)) (ok .head .years-few) (ap negℤ (outflow-before plan)) (λ k l. ap negℤ (outflow-past plan k l)))
+  flow-held = fun-ext (table-held (pos 0) (flowOf (sharedOf P)) (ok .head .years-few)
+      (no-flow (sharedOf P) 0 (payment-before plan) (constant-before plan))
+      (λ k l. no-flow (sharedOf P) k (λ j. payment-past plan k j l) (constant-past plan k l)))
 
   -- the row of one instrument
-  pub row-is : (j : ℕ) → j < plan .instruments → getD (paymentsRows (numbers plan)) j [] ≡ paymentsRow (numbers plan) j
+  row-is : (j : ℕ) → j < plan .instruments → getD (paymentsRows P) j [] ≡ paymentsRow P j
   unfolding paymentsRows
-  row-is j h = table-at 16 (plan .instruments) (paymentsRow (numbers plan)) _ [] j h (ok .head .instruments-few)
+  row-is j h = table-at 16 (plan .instruments) (paymentsRow P) _ [] j h (ok .head .instruments-few)
 
-  pub payments-held : (j : ℕ) → j < plan .instruments →
-      amountsOf (getD (paymentsRows (numbers plan)) j []) ≡ (λ k. numbers plan .a k (1 + j))
+  row-held : (j : ℕ) → j < plan .instruments → amountsOf (getD (paymentsRows P) j []) ≡ (λ k. P .a k (1 + j))
   unfolding amountsOf paymentsRow
-  payments-held j h = rw (row-is j h) (fun-ext (table-held (pos 0) (λ k. numbers plan .a k (1 + j)) (ok .head .years-few) (payment-before plan (1 + j)) (λ k l. payment-past plan k (1 + j) l)))
+  row-held j h = rw (row-is j h) (fun-ext (table-held (pos 0) (λ k. P .a k (1 + j)) (ok .head .years-few) (payment-before plan (1 + j)) (λ k l. payment-past plan k (1 + j) l)))
+
+  payments-held : (λ k. entry (pos 0) (plan .instruments) (λ j. amountsOf (getD (paymentsRows P) j []) k)) ≡ P .a
+  payments-held = fun-ext (λ k. fun-ext (λ j.
+      entry-cong (pos 0) (plan .instruments) _ (λ j. P .a k (1 + j)) (λ j h. ap (λ (f : ℕ → ℤ). f k) (row-held j h)) j
+      ∙ entry-of (λ (a : HeldInstrument). a .payment k) unheldInstrument (plan .instruments) (λ j. held plan .instrument (1 + j)) j
+      ∙ ap (λ (f : ℕ → HeldInstrument). f j .payment k) (sym (tidy-held plan (ok .head) .instrument))))
+
+  shared-held : sharedIn (commonOf plan) (paymentsRows P) ≡ sharedOf P
+  unfolding commonOf allocationHeld
+  shared-held = rw (payments-held, constant-held, rollover-held)
 
   -- ---- and their ranges
-  pub terms : Terms (plan .terms) (rolloverArray (numbers plan))
+  pub terms : Terms (plan .terms) (rolloverArray P)
   unfolding rolloverArray
   terms = record {
     few = ok .head .terms-few;
-    part = table-each (Between (pos 0) (pos million)) 30 (plan .terms) (λ d. pos (numbers plan .r (1 + d))) (pos 0) (pos 0) (ok .head .terms-few) (omega whole)
-        (λ d l. omega (whole, sumℕ-one (suc (plan .terms) - 1) (λ d. numbers plan .r (1 + d)) d (omega arith), ok .rollover));
+    part = table-each (Between (pos 0) (pos million)) 30 (plan .terms) (λ d. pos (P .r (1 + d))) (pos 0) (pos 0) (ok .head .terms-few) (omega whole)
+        (λ d l. omega (whole, sumℕ-one (suc (plan .terms) - 1) (λ d. P .r (1 + d)) d (omega arith), ok .rollover));
     sum = rw rollover-held (ok .rollover);
     past = rw rollover-held (ok .rollover-past);
   }
 
-  pub rates : (t : ℕ) → Rates (ratesArray (numbers plan) t)
+  rates : (t : ℕ) → Rates (ratesArray P t)
   unfolding ratesArray
   rates t = record {
-    rate = table-each (Within million) 30 (plan .years - 1) (λ l. numbers plan .i t (2 + l)) (pos 0) (pos 0) (omega (arith, ok .head .years-few)) (omega whole)
+    rate = table-each (Within million) 30 (plan .years - 1) (λ l. P .i t (2 + l)) (pos 0) (pos 0) (omega (arith, ok .head .years-few)) (omega whole)
         (λ l h. omega (whole, ok .rates t (2 + l)));
   }
 
-  pub flow-amounts : Amounts (flowArray (numbers plan))
-  unfolding flowArray
-  flow-amounts = record {
-    amount = table-each (Within limit) 30 (plan .years) (λ k. flowOf (numbers plan) (1 + k)) (pos 0) (pos 0) (ok .head .years-few) (omega whole)
-        (λ k h. within-more (omega arith) (flow-within ok (1 + k)));
+  amounts : (f : ℕ → ℤ) → ((k : ℕ) → Within limit (f k)) → Amounts (table 30 (plan .years) f (pos 0))
+  amounts f within = record { amount = table-each (Within limit) 30 (plan .years) f (pos 0) (pos 0) (ok .head .years-few) (omega whole) (λ k h. within k) }
+
+  prepared : Prepared (commonOf plan) (paymentsRows P)
+  unfolding commonOf constantArray paymentsRow
+  prepared = record {
+    years = years;
+    few = ok .head .instruments-few;
+    terms = terms;
+    weights = ap weightsOf (sym rollover-held);
+    parts = allocation-parts;
+    payments = λ j h. rw (row-is j h) (amounts (λ k. P .a (1 + k) (1 + j)) (λ k. within-more (omega arith) (payment-within ok (1 + k) (1 + j))));
+    constant = amounts (λ k. sharedOf P .constantFlow (1 + k)) (λ k. within-more (omega arith) (constant-within ok (1 + k)));
+    flow = λ k. subst (λ (S : Shared). Within limit (flowOf S k)) (sym shared-held) (flow-within ok k);
+    flow-held = subst (λ (S : Shared). amountsOf (flowArray S) ≡ flowOf S) (sym shared-held) flow-held;
   }
 
-  pub outflow-amounts : Amounts (outflowArray (numbers plan))
-  unfolding outflowArray
-  outflow-amounts = record {
-    amount = table-each (Within limit) 30 (plan .years) (λ k. negℤ (numbers plan .o (1 + k))) (pos 0) (pos 0) (ok .head .years-few) (omega whole)
-        (λ k h. within-more (omega arith) (within-neg (ok .outflows (1 + k))));
-  }
+  -- ---- the same of what the code has prepared
+  module _ {c : Common} (e : c ≡ commonOf plan) {rows : List (List ℤ)} (f : rows ≡ paymentsRows P) where
+    pub prepared-is : Prepared c rows
+    prepared-is = rw (e, f) prepared
 
-  pub payments-amounts : (j : ℕ) → j < plan .instruments → Amounts (getD (paymentsRows (numbers plan)) j [])
-  unfolding paymentsRow
-  payments-amounts j h = rw (row-is j h) (record {
-    amount = table-each (Within limit) 30 (plan .years) (λ k. numbers plan .a (1 + k) (1 + j)) (pos 0) (pos 0) (ok .head .years-few) (omega whole)
-        (λ k h. within-more (omega arith) (payment-within ok (1 + k) (1 + j)));
-  })
+    pub shared-is : sharedIn c rows ≡ sharedOf P
+    shared-is = rw (e, f) shared-held
 
-  -- a rollover with its weights, and any rates in range, are ready to be reckoned
-  pub ready : {r v i : List ℤ} → r ≡ rolloverArray (numbers plan) → v ≡ weightsOf (sharesOf r) → Rates i → Ready (plan .terms) r v i
-  ready e f g = record { terms = rw e terms; weights = f; rates = g }
+  module _ (t : ℕ) {i : List ℤ} (e : i ≡ ratesArray P t) where
+    pub rates-ready : Rates i
+    rates-ready = rw e (rates t)
+
+    pub rates-are : ratesOf i ≡ P .i t
+    rates-are = rw e (rates-held t)
+
+-- ---- what is prepared, with any rates and with the allocation's flow, can be reckoned
+module _ {c : Common} {rows : List (List ℤ)} (p : Prepared c rows) where
+  pub ready : {i : List ℤ} → Rates i → Ready (c .terms) (c .rollover) (c .weights) i
+  ready g = record { terms = p .terms; weights = p .weights; rates = g }
+
+  module _ {f : List ℤ} (e : f ≡ flowArray (sharedIn c rows)) where
+    pub flow-amounts : Amounts f
+    unfolding flowArray
+    flow-amounts = rw e (record { amount = table-each (Within limit) 30 (c .years) (λ k. flowOf (sharedIn c rows) (1 + k)) (pos 0) (pos 0) (p .years .few) (omega whole) (λ k h. p .flow (1 + k)) })
+
+    pub flow-reckoned : (i : ℕ → ℤ) → fundReckoned (sharesOf (c .rollover)) i (amountsOf f) (c .years) ≡ flowReckoned (sharedIn c rows) i
+    flow-reckoned i = ap (λ (f : ℕ → ℤ). fundReckoned (sharesOf (c .rollover)) i f (c .years)) (ap amountsOf e ∙ p .flow-held)

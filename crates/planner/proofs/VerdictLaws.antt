@@ -7,7 +7,7 @@ use native.Mathlib.Omega.{arith}
 use borrow.Author.Tests.{eqb-true, eqb-false}
 use lib.Dec.{eqb}
 use lib.ListN.{getD, replicate}
-use lib.IntN.{ℤ, pos, _+ℤ_}
+use lib.IntN.{ℤ, _+ℤ_}
 use lib.Signed.{leZ, _≤ℤ_}
 use Rattle.whole.specs.Test.{pick, all}
 use Rattle.whole.specs.Table.{table}
@@ -16,6 +16,7 @@ use Rattle.whole.proofs.Table.{table-at}
 use Rattle.plan.specs.Numbers.{Numbers}
 use Rattle.plan.specs.Refusal.{refusalOf, Accepted}
 use Rattle.plan.proofs.Checks.{first-some, accepted-none}
+use Rattle.planner.specs.Calls.{sharedOf}
 use Rattle.planner.specs.Verdict.{
   solvent,
   short,
@@ -24,7 +25,7 @@ use Rattle.planner.specs.Verdict.{
   bitsOf,
   planWordOf,
   noVerdict,
-  noPattern,
+  noPatternRow,
   rowFits,
   patternWord,
   rowOf,
@@ -68,50 +69,50 @@ module _ (P : Numbers) where
   plan-refuses e h = e ∙ sym (first-some (refusalOf P) _ (λ z. h (e ∙ z)))
 
   module _ (ok : Accepted P) where
-    pub pattern-refuses : all (P .patterns) (λ t. rowFits P (1 + t)) ≡ false → 11 ≡ verdictRefusal P
+    pub pattern-refuses : all (P .patterns) (λ t. rowFits (sharedOf P) (P .i (1 + t))) ≡ false → 11 ≡ verdictRefusal P
     unfolding verdictRefusal
     pattern-refuses e = rw (accepted-none ok, e)
 
-    none-refuses : all (P .patterns) (λ t. rowFits P (1 + t)) ≡ true → verdictRefusal P ≡ 0
+    none-refuses : all (P .patterns) (λ t. rowFits (sharedOf P) (P .i (1 + t))) ≡ true → verdictRefusal P ≡ 0
     unfolding verdictRefusal
     none-refuses e = rw (accepted-none ok, e)
 
   -- ---- the ways out
   pub judge-refused : {number : ℕ} → number ≡ verdictRefusal P → (number ≡ 0 → ⊥) → noJudgement number ≡ judgementOf P
   unfolding judgementOf verdictAnswer rowsOf
-  judge-refused e h = ap₂ judgement (out-refused noVerdict _ e h) (out-refused (λ n. replicate 64 noPattern) _ e h)
+  judge-refused e h = ap₂ judgement (out-refused noVerdict _ e h) (out-refused (λ n. replicate 64 noPatternRow) _ e h)
 
-  pub judge-made : Accepted P → all (P .patterns) (λ t. rowFits P (1 + t)) ≡ true → {words : List ℕ} {rows : List PatternRow} {v : VerdictAnswer} →
-      words ≡ table 64 (P .patterns) (λ t. patternWord P (1 + t)) 0 → rows ≡ table 64 (P .patterns) (λ t. rowOf P (1 + t)) noPattern → v ≡ verdictOf (P .patterns) words →
+  pub judge-made : Accepted P → all (P .patterns) (λ t. rowFits (sharedOf P) (P .i (1 + t))) ≡ true → {words : List ℕ} {rows : List PatternRow} {v : VerdictAnswer} →
+      words ≡ table 64 (P .patterns) (λ t. patternWord P (1 + t)) 0 → rows ≡ table 64 (P .patterns) (λ t. rowOf P (1 + t)) noPatternRow → v ≡ verdictOf (P .patterns) words →
       record { verdict = v; rows = rows } ≡ judgementOf P
   unfolding judgementOf verdictAnswer rowsOf shortBits planWord
   judge-made ok fit words-are rows-are e =
       let none = none-refuses ok fit in
-      ap₂ judgement (out-accepted noVerdict none (e ∙ verdict-made (P .patterns) (λ t. patternWord P (1 + t)) (ok .head .patterns-few) words-are)) (out-accepted (λ n. replicate 64 noPattern) none rows-are)
+      ap₂ judgement (out-accepted noVerdict none (e ∙ verdict-made (P .patterns) (λ t. patternWord P (1 + t)) (ok .head .patterns-few) words-are)) (out-accepted (λ n. replicate 64 noPatternRow) none rows-are)
 
   -- the verdict of a judgement
   pub verdict-judged : {j : Judgement} → j ≡ judgementOf P → j .verdict ≡ verdictAnswer P
   unfolding judgementOf
   verdict-judged e = ap (λ (j : Judgement). j .verdict) e
 
--- ---- what a pattern's word says of its fund z and bound b
-module _ (z b : ℤ) where
-  pub word-solvent : wordOf z b ≡ solvent → pos 0 ≤ℤ z
+-- ---- what a pattern's word says of its fund z and bound b, against c
+module _ (z b c : ℤ) where
+  pub word-solvent : wordOf z b c ≡ solvent → c ≤ℤ z
   unfolding wordOf
-  word-solvent = go (leZ (pos 0) z) (leZ (z +ℤ b) (pos 0)) refl
+  word-solvent = go (leZ c z) (leZ (z +ℤ b) c) refl
     where
-      go : (y s : Bool) → leZ (pos 0) z ≡ y → pick y solvent (pick s short close) ≡ solvent → pos 0 ≤ℤ z
-      go true s e h = le-true (pos 0) z e
+      go : (y s : Bool) → leZ c z ≡ y → pick y solvent (pick s short close) ≡ solvent → c ≤ℤ z
+      go true s e h = le-true c z e
       go false true e h = absurd (omega arith)
       go false false e h = absurd (omega arith)
 
-  pub word-short : wordOf z b ≡ short → (z +ℤ b) ≤ℤ pos 0
+  pub word-short : wordOf z b c ≡ short → (z +ℤ b) ≤ℤ c
   unfolding wordOf
-  word-short = go (leZ (pos 0) z) (leZ (z +ℤ b) (pos 0)) refl
+  word-short = go (leZ c z) (leZ (z +ℤ b) c) refl
     where
-      go : (y s : Bool) → leZ (z +ℤ b) (pos 0) ≡ s → pick y solvent (pick s short close) ≡ short → (z +ℤ b) ≤ℤ pos 0
+      go : (y s : Bool) → leZ (z +ℤ b) c ≡ s → pick y solvent (pick s short close) ≡ short → (z +ℤ b) ≤ℤ c
       go true s e h = absurd (omega arith)
-      go false true e h = le-true (z +ℤ b) (pos 0) e
+      go false true e h = le-true (z +ℤ b) c e
       go false false e h = absurd (omega arith)
 
 -- ---- what the plan's word says of m words

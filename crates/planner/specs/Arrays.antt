@@ -1,20 +1,21 @@
--- What the code prepares of a plan for the core: arrays that hold the plan's numbers P, with zeros past N, n and q; and what the code
--- reckons of such arrays.
+-- What the code prepares of a plan for the core: arrays that hold the plan's numbers P, with zeros past N, n and q; and what such
+-- arrays say by the papers' index.
+use mathlib.Core.Path.{_≡_}
 use mathlib.Core.List.{List, []}
 use Prim.Native.Nat.{ℕ, _+_, _-_, _≤_, _<_}
 use lib.ListN.{getD, replicate}
-use lib.IntN.{ℤ, pos, negℤ}
+use lib.IntN.{ℤ, pos}
 use Rattle.whole.specs.Range.{million, limit, Within}
 use Rattle.whole.specs.Sum.{sumℕ}
-use Rattle.whole.specs.Test.{pick, all}
 use Rattle.whole.specs.Table.{table}
-use Rattle.reckoning.specs.Reckoning.{fund}
-use Rattle.reckoning.specs.Arrays.{amountsOf, Amounts, weightsOf, fundFits}
-use Rattle.plan.specs.Numbers.{Numbers}
+use Rattle.whole.specs.Entry.{entry}
+use Rattle.reckoning.specs.Arrays.{sharesOf, amountsOf, Years, Terms, Amounts, weightsOf}
+use Rattle.plan.specs.Numbers.{Numbers, numbers}
+use Rattle.plan.specs.declared.Plan.{Plan}
 use Rattle.planner.specs.declared.Common.{Common}
-use Rattle.planner.specs.declared.Coefficients.{Coefficients}
-use Rattle.planner.specs.Calls.{flowOf}
+use Rattle.planner.specs.Calls.{Shared, sharedOf, flowOf}
 
+-- ---- the arrays of a plan
 module _ (P : Numbers) where
   -- r_1 to r_q
   unfoldable pub rolloverArray : List ℤ
@@ -24,12 +25,9 @@ module _ (P : Numbers) where
   unfoldable pub ratesArray : (t : ℕ) → List ℤ
   ratesArray t = table 30 (P .years - 1) (λ l. P .i t (2 + l)) (pos 0)
 
-  -- the allocation's flow, and -o, in years 1 to N
-  unfoldable pub flowArray : List ℤ
-  flowArray = table 30 (P .years) (λ k. flowOf P (1 + k)) (pos 0)
-
-  unfoldable pub outflowArray : List ℤ
-  outflowArray = table 30 (P .years) (λ k. negℤ (P .o (1 + k))) (pos 0)
+  -- the flow of Q in years 1 to N
+  unfoldable pub constantArray : List ℤ
+  constantArray = table 30 (P .years) (λ k. sharedOf P .constantFlow (1 + k)) (pos 0)
 
   -- the payments of instrument 1 + j in years 1 to N, and those of every instrument
   unfoldable pub paymentsRow : (j : ℕ) → List ℤ
@@ -38,43 +36,53 @@ module _ (P : Numbers) where
   unfoldable pub paymentsRows : List (List ℤ)
   paymentsRows = table 16 (P .instruments) paymentsRow (replicate 30 (pos 0))
 
-  -- what all patterns of a plan share, beside the payments
-  unfoldable pub commonOf : Common
-  commonOf = record {
-    rollover = rolloverArray;
-    weights = weightsOf (P .r);
-    flow = flowArray;
-    outflow = outflowArray;
-  }
+-- what all patterns of a plan share, beside the payments
+unfoldable pub commonOf : Plan → Common
+commonOf plan = record {
+  years = plan .years;
+  instruments = plan .instruments;
+  terms = plan .terms;
+  allocation = plan .allocation;
+  rollover = rolloverArray (numbers plan);
+  weights = weightsOf (numbers plan .r);
+  constantflow = constantArray (numbers plan);
+}
 
--- ---- rows of amounts, counted from 0
+-- ---- what arrays say
+-- what is shared, of a `Common` c and the rows of payments
+abbrev pub sharedIn : (c : Common) (rows : List (List ℤ)) → Shared
+sharedIn c rows = record {
+  years = c .years;
+  instruments = c .instruments;
+  a = λ k. entry (pos 0) (c .instruments) (λ j. amountsOf (getD rows j []) k);
+  constantFlow = amountsOf (c .constantflow);
+  r = sharesOf (c .rollover);
+  p = entry 0 (c .instruments) (λ j. getD (c .allocation) j 0);
+}
+
+-- the allocation's flow in years 1 to N
+unfoldable pub flowArray : Shared → List ℤ
+flowArray S = table 30 (S .years) (λ k. flowOf S (1 + k)) (pos 0)
+
 -- the entries k of n rows
 unfoldable pub columnOf : (n : ℕ) → List (List ℤ) → (k : ℕ) → List ℤ
 columnOf n rows k = table 16 n (λ j. getD (getD rows j []) k (pos 0)) (pos 0)
-
--- row j as a flow
-abbrev pub flowsIn : List (List ℤ) → (j k : ℕ) → ℤ
-flowsIn rows j = amountsOf (getD rows j [])
-
--- n rows of payments within the limit
-pub record Payments (n : ℕ) (rows : List (List ℤ)) : Type 0 where
-  pub few : n ≤ 16
-  pub amounts : (j : ℕ) → j < n → Amounts (getD rows j [])
-
--- all that a pattern reckons: the allocation's flow, -o, and n rows of payments
-pub record Flows (flow outflow : List ℤ) (n : ℕ) (rows : List (List ℤ)) : Type 0 where
-  pub flow-amounts : Amounts flow
-  pub outflow-amounts : Amounts outflow
-  pub payments : Payments n rows
-
--- the funds of the flows a 0 to a (n - 1), unless check 11 refuses one
-unfoldable pub fundsReckoned : (r : ℕ → ℕ) (i : ℕ → ℤ) (N n : ℕ) (a : ℕ → ℕ → ℤ) → Coefficients
-fundsReckoned r i N n a = pick (all n (λ j. fundFits r i (a j) N))
-    (record { refusal = 0; values = table 16 n (λ j. fund r i N (a j)) (pos 0) })
-    (record { refusal = 11; values = replicate 16 (pos 0) })
 
 -- n amounts within the limit, and parts of at most 1,000,000 together
 pub record Weighable (n : ℕ) (x : List ℤ) (p : List ℕ) : Type 0 where
   pub few : n ≤ 16
   pub amount : (j : ℕ) → j < n → Within limit (getD x j (pos 0))
   pub parts : sumℕ n (λ j. getD p j 0) ≤ million
+
+-- ---- what is prepared of an accepted plan can be reckoned: the counts, the rollover and its weights, the parts of the allocation,
+-- every flow within the limit, and none outside years 1 to N
+pub record Prepared (c : Common) (rows : List (List ℤ)) : Type 0 where
+  pub years : Years (c .years)
+  pub few : c .instruments ≤ 16
+  pub terms : Terms (c .terms) (c .rollover)
+  pub weights : c .weights ≡ weightsOf (sharesOf (c .rollover))
+  pub parts : sumℕ (c .instruments) (λ j. getD (c .allocation) j 0) ≤ million
+  pub payments : (j : ℕ) → j < c .instruments → Amounts (getD rows j [])
+  pub constant : Amounts (c .constantflow)
+  pub flow : (k : ℕ) → Within limit (flowOf (sharedIn c rows) k)
+  pub flow-held : amountsOf (flowArray (sharedIn c rows)) ≡ flowOf (sharedIn c rows)

@@ -1,14 +1,15 @@
 -- What each call answers, over a plan's numbers P, for good and bad input alike (document 01, "Checking order").
 use mathlib.Core.Bool.{Bool}
+use mathlib.Core.List.{List}
 use Prim.Native.Nat.{ℕ, _+_}
 use lib.ListN.{replicate}
 use lib.IntN.{ℤ, pos, negℤ}
 use Rattle.whole.specs.Test.{pick, both, all, isFrom}
 use Rattle.whole.specs.Table.{table}
-use Rattle.reckoning.specs.Reckoning.{flow}
+use Rattle.reckoning.specs.Reckoning.{flow, fund}
 use Rattle.reckoning.specs.Exact.{x, H}
-use Rattle.reckoning.specs.Bound.{h, B, K, Q, value}
-use Rattle.reckoning.specs.Arrays.{fundFits, noRow, fundAnswer as fundReckoned, gammasAnswer as gammasReckoned}
+use Rattle.reckoning.specs.Bound.{h, B, value}
+use Rattle.reckoning.specs.Arrays.{fundFits, noRow, fundReckoned, gammasReckoned}
 use Rattle.reckoning.specs.declared.Reckoned.{Reckoned}
 use Rattle.reckoning.specs.declared.GammaTable.{GammaTable}
 use Rattle.plan.specs.Numbers.{Numbers}
@@ -29,58 +30,106 @@ noForm number = record { refusal = number; coefficients = replicate 16 (pos 0); 
 abbrev pub noGammas : ℕ → GammaTable
 noGammas number = record { refusal = number; rows = replicate 30 noRow }
 
-module _ (P : Numbers) where
+-- ---- what every pattern of a plan is reckoned from: N, n, the payments a, the flow of Q, the rollover r, the allocation p
+pub record Shared : Type 0 where
+  pub years : ℕ
+  pub instruments : ℕ
+  pub a : (k j : ℕ) → ℤ
+  pub constantFlow : (k : ℕ) → ℤ
+  pub r : (d : ℕ) → ℕ
+  pub p : (j : ℕ) → ℕ
+
+-- of a plan: the flow of Q is -o
+abbrev pub sharedOf : Numbers → Shared
+sharedOf P = record {
+  years = P .years;
+  instruments = P .instruments;
+  a = P .a;
+  constantFlow = λ k. negℤ (P .o k);
+  r = P .r;
+  p = P .p;
+}
+
+module _ (S : Shared) where
   -- the allocation's flow, and Tilley's exact one
   unfoldable pub flowOf : (k : ℕ) → ℤ
-  flowOf = flow (P .instruments) (P .a) (P .o) (P .p)
+  flowOf = flow (S .instruments) (S .a) (S .constantFlow) (S .p)
 
   unfoldable pub exactFlowOf : (k : ℕ) → ℤ
-  exactFlowOf = x (P .instruments) (P .a) (P .o) (P .p)
+  exactFlowOf = x (S .instruments) (S .a) (S .constantFlow) (S .p)
 
-  -- checks 3 and 6 to 9, then 10: every call on one pattern
-  unfoldable pub callRefusal : (t : ℕ) → ℕ
-  callRefusal t = firstOf (refusalOf P) (check (isFrom 1 (P .patterns) t) 10 0)
-
-  module _ (t : ℕ) where
-    -- H of the plan in pattern t: the exact fund is this / 10^(12 N)
-    unfoldable pub exactFund : ℤ
-    exactFund = H (P .r) (P .i t) (P .years) exactFlowOf
-
-    -- the fund of one pattern reckons the allocation's flow
-    unfoldable pub fundAnswer : Reckoned
-    fundAnswer = answer noFund (callRefusal t) (fundReckoned (P .r) (P .i t) flowOf (P .years))
-
-    -- B of one pattern
-    unfoldable pub boundOf : ℕ
-    boundOf = B (h (P .i t) (P .years)) (P .years)
-
-    unfoldable pub boundAnswer : BoundAnswer
-    boundAnswer = answer noBound (callRefusal t) (record { refusal = 0; bound = pos boundOf })
-
-    -- the gammas of one pattern
-    unfoldable pub gammasAnswer : GammaTable
-    gammasAnswer = answer noGammas (callRefusal t) (gammasReckoned (P .r) (P .i t) (P .years))
-
-  -- the form at the rates i reckons every instrument and -o
+  -- ---- a pattern of the rates i
   module _ (i : ℕ → ℤ) where
-    -- check 11 for every instrument, and for -o
+    -- H: the exact fund is this / 10^(12 N)
+    unfoldable pub exactAt : ℤ
+    exactAt = H (S .r) i (S .years) exactFlowOf
+
+    -- the fund of the allocation's flow, and B
+    unfoldable pub fundAt : ℤ
+    fundAt = fund (S .r) i (S .years) flowOf
+
+    unfoldable pub boundAt : ℕ
+    boundAt = B (h i (S .years)) (S .years)
+
+    -- K_j, Q, and the form's value at the allocation
+    unfoldable pub coefficientAt : (j : ℕ) → ℤ
+    coefficientAt j = fund (S .r) i (S .years) (λ k. S .a k j)
+
+    unfoldable pub constantAt : ℤ
+    constantAt = fund (S .r) i (S .years) (S .constantFlow)
+
+    unfoldable pub valueAt : ℤ
+    valueAt = value (S .instruments) coefficientAt constantAt (S .p)
+
+    -- check 11 for the allocation's flow, for every instrument, and for the flow of Q
+    unfoldable pub flowFits : Bool
+    flowFits = fundFits (S .r) i flowOf (S .years)
+
     unfoldable pub coefficientsFit : Bool
-    coefficientsFit = all (P .instruments) (λ j. fundFits (P .r) i (λ k. P .a k (1 + j)) (P .years))
+    coefficientsFit = all (S .instruments) (λ j. fundFits (S .r) i (λ k. S .a k (1 + j)) (S .years))
 
     unfoldable pub constantFits : Bool
-    constantFits = fundFits (P .r) i (λ k. negℤ (P .o k)) (P .years)
+    constantFits = fundFits (S .r) i (S .constantFlow) (S .years)
 
-    -- K_1 to K_n, Q, and the value at the plan's allocation
-    unfoldable pub formOf : FormAnswer
-    formOf = record {
-      refusal = 0;
-      coefficients = table 16 (P .instruments) (λ j. K (P .a) (P .o) (P .r) i (P .years) (1 + j)) (pos 0);
-      constant = Q (P .a) (P .o) (P .r) i (P .years);
-      value = value (P .a) (P .o) (P .r) i (P .years) (P .instruments) (P .p);
-    }
+    -- K_1 to K_n, and zeros
+    unfoldable pub coefficientsAt : List ℤ
+    coefficientsAt = table 16 (S .instruments) (λ j. coefficientAt (1 + j)) (pos 0)
 
+    -- the fund reckons the allocation's flow
+    abbrev pub flowReckoned : Reckoned
+    flowReckoned = fundReckoned (S .r) i flowOf (S .years)
+
+    -- the form reckons every instrument and the flow of Q
     unfoldable pub formReckoned : FormAnswer
-    formReckoned = pick (both coefficientsFit constantFits) formOf (noForm 11)
+    formReckoned = pick (both coefficientsFit constantFits)
+        (record { refusal = 0; coefficients = coefficientsAt; constant = constantAt; value = valueAt })
+        (noForm 11)
 
-  unfoldable pub formAnswer : (t : ℕ) → FormAnswer
-  formAnswer t = answer noForm (callRefusal t) (formReckoned (P .i t))
+-- ---- the answers
+module _ (P : Numbers) (t : ℕ) where
+  -- checks 3 and 6 to 9, then 10: every call on one pattern
+  unfoldable pub callRefusal : ℕ
+  callRefusal = firstOf (refusalOf P) (check (isFrom 1 (P .patterns) t) 10 0)
+
+  -- H of the plan in pattern t
+  unfoldable pub exactFund : ℤ
+  exactFund = exactAt (sharedOf P) (P .i t)
+
+  -- the fund of one pattern
+  unfoldable pub fundAnswer : Reckoned
+  fundAnswer = answer noFund callRefusal (flowReckoned (sharedOf P) (P .i t))
+
+  -- B of one pattern
+  unfoldable pub boundOf : ℕ
+  boundOf = boundAt (sharedOf P) (P .i t)
+
+  unfoldable pub boundAnswer : BoundAnswer
+  boundAnswer = answer noBound callRefusal (record { refusal = 0; bound = pos boundOf })
+
+  -- the gammas of one pattern
+  unfoldable pub gammasAnswer : GammaTable
+  gammasAnswer = answer noGammas callRefusal (gammasReckoned (P .r) (P .i t) (P .years))
+
+  -- the form of one pattern, and its value at the plan's allocation
+  unfoldable pub formAnswer : FormAnswer
+  formAnswer = answer noForm callRefusal (formReckoned (sharedOf P) (P .i t))

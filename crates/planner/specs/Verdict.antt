@@ -8,15 +8,12 @@ use lib.IntN.{ℤ, pos, _+ℤ_}
 use lib.Signed.{leZ}
 use Rattle.whole.specs.Test.{pick, both, all}
 use Rattle.whole.specs.Table.{table}
-use Rattle.reckoning.specs.Reckoning.{fund}
-use Rattle.reckoning.specs.Bound.{K, Q}
-use Rattle.reckoning.specs.Arrays.{fundFits}
 use Rattle.plan.specs.Numbers.{Numbers}
 use Rattle.plan.specs.Refusal.{answer, firstOf, check, refusalOf}
 use Rattle.planner.specs.declared.PatternRow.{PatternRow}
 use Rattle.planner.specs.declared.Judgement.{Judgement}
 use Rattle.planner.specs.declared.VerdictAnswer.{VerdictAnswer}
-use Rattle.planner.specs.Calls.{flowOf, boundOf, coefficientsFit, constantFits}
+use Rattle.planner.specs.Calls.{Shared, sharedOf, fundAt, boundAt, constantAt, coefficientsAt, flowFits, coefficientsFit, constantFits}
 
 -- words are numbers from 1, in this order
 abbrev pub solvent : ℕ
@@ -28,9 +25,9 @@ short = 2
 abbrev pub close : ℕ
 close = 3
 
--- the word of a pattern whose fund is z, with the bound b
-unfoldable pub wordOf : (z b : ℤ) → ℕ
-wordOf z b = pick (leZ (pos 0) z) solvent (pick (leZ (z +ℤ b) (pos 0)) short close)
+-- the word of a pattern whose fund is z, with the bound b, against c
+unfoldable pub wordOf : (z b c : ℤ) → ℕ
+wordOf z b c = pick (leZ c z) solvent (pick (leZ (z +ℤ b) c) short close)
 
 -- one word of bits: the lowest is that of p 0, and n are looked at
 unfoldable pub bitsOf : (n : ℕ) → (p : ℕ → Bool) → ℕ
@@ -46,34 +43,43 @@ planWordOf m word bits = pick (eqb bits 0) (pick (all m (λ t. eqb (word t) solv
 abbrev pub noVerdict : ℕ → VerdictAnswer
 noVerdict number = record { refusal = number; words = replicate 64 0; short = 0; word = 0 }
 
-abbrev pub noPattern : PatternRow
-noPattern = record { word = 0; fund = pos 0; bound = pos 0; coefficients = replicate 16 (pos 0); constant = pos 0 }
+abbrev pub noPatternRow : PatternRow
+noPatternRow = record { word = 0; fund = pos 0; bound = pos 0; coefficients = replicate 16 (pos 0); constant = pos 0 }
 
--- the row of a pattern whose fund is z, with the bound b, K_1 to K_n and Q
-abbrev pub rowWith : (z b : ℤ) (coefficients : List ℤ) (constant : ℤ) → PatternRow
-rowWith z b coefficients constant = record { word = wordOf z b; fund = z; bound = b; coefficients = coefficients; constant = constant }
+-- ---- what a pattern of the rates i comes to
+module _ (S : Shared) (i : ℕ → ℤ) where
+  -- check 11 for all that it reckons: the allocation's flow, every instrument and the flow of Q
+  unfoldable pub rowFits : Bool
+  rowFits = both (flowFits S i) (both (coefficientsFit S i) (constantFits S i))
 
+  -- its word, by its fund and B, against 0
+  unfoldable pub wordAt : ℕ
+  wordAt = wordOf (fundAt S i) (pos (boundAt S i)) (pos 0)
+
+  unfoldable pub rowAt : PatternRow
+  rowAt = record {
+    word = wordAt;
+    fund = fundAt S i;
+    bound = pos (boundAt S i);
+    coefficients = coefficientsAt S i;
+    constant = constantAt S i;
+  }
+
+-- ---- the verdict
 module _ (P : Numbers) where
-  -- check 11 for all that pattern t reckons: the allocation's flow, every instrument and -o
-  unfoldable pub rowFits : (t : ℕ) → Bool
-  rowFits t = both (fundFits (P .r) (P .i t) (flowOf P) (P .years)) (both (coefficientsFit P (P .i t)) (constantFits P (P .i t)))
-
-  -- what pattern t comes to: fund, B, K_1 to K_n, Q and word
+  -- what pattern t comes to: its fund, its word, and all of its row
   unfoldable pub fundOf : (t : ℕ) → ℤ
-  fundOf t = fund (P .r) (P .i t) (P .years) (flowOf P)
+  fundOf t = fundAt (sharedOf P) (P .i t)
 
   unfoldable pub patternWord : (t : ℕ) → ℕ
-  patternWord t = wordOf (fundOf t) (pos (boundOf P t))
+  patternWord t = wordAt (sharedOf P) (P .i t)
 
   unfoldable pub rowOf : (t : ℕ) → PatternRow
-  rowOf t =
-      rowWith (fundOf t) (pos (boundOf P t))
-      (table 16 (P .instruments) (λ j. K (P .a) (P .o) (P .r) (P .i t) (P .years) (1 + j)) (pos 0))
-      (Q (P .a) (P .o) (P .r) (P .i t) (P .years))
+  rowOf t = rowAt (sharedOf P) (P .i t)
 
   -- the verdict's checks: 3 and 6 to 9, then 11 in every pattern
   unfoldable pub verdictRefusal : ℕ
-  verdictRefusal = firstOf (refusalOf P) (check (all (P .patterns) (λ t. rowFits (1 + t))) 11 0)
+  verdictRefusal = firstOf (refusalOf P) (check (all (P .patterns) (λ t. rowFits (sharedOf P) (P .i (1 + t)))) 11 0)
 
   -- bit t - 1 is set if pattern t is short
   unfoldable pub shortBits : ℕ
@@ -88,7 +94,7 @@ module _ (P : Numbers) where
 
   -- every pattern's row, beside the verdict
   unfoldable pub rowsOf : List PatternRow
-  rowsOf = answer (λ n. replicate 64 noPattern) verdictRefusal (table 64 (P .patterns) (λ t. rowOf (1 + t)) noPattern)
+  rowsOf = answer (λ n. replicate 64 noPatternRow) verdictRefusal (table 64 (P .patterns) (λ t. rowOf (1 + t)) noPatternRow)
 
   unfoldable pub judgementOf : Judgement
   judgementOf = record { verdict = verdictAnswer; rows = rowsOf }

@@ -11,14 +11,13 @@ ghost use lib.IntN.{pos, _*ℤ_};
 ghost use Rattle.whole.specs.Range.{limit, Between, Within};
 ghost use Rattle.whole.specs.Sum.{sum};
 ghost use Rattle.whole.specs.Test.{pick};
-ghost use Rattle.whole.specs.Table.{table};
-ghost use Rattle.reckoning.specs.Arrays.{sharesOf, ratesOf, amountsOf, Years, Ready};
+ghost use Rattle.reckoning.specs.Arrays.{sharesOf, ratesOf, amountsOf, Years, Rates, Amounts, Ready, fundReckoned};
 ghost use Rattle.plan.specs.Numbers.{numbers};
 ghost use Rattle.plan.specs.Refusal.{Accepted};
-ghost use Rattle.planner.specs.Calls.{noForm, callRefusal, fundAnswer, boundAnswer, gammasAnswer, formReckoned, formAnswer};
-ghost use Rattle.planner.specs.Verdict.{short, wordOf, bitsOf, noPattern, planWordOf, verdictAnswer, judgementOf};
-ghost use Rattle.planner.specs.Arrays.{rolloverArray, ratesArray, flowArray, outflowArray, paymentsRows, commonOf, columnOf, flowsIn, Payments, Flows, fundsReckoned, Weighable};
-ghost use Rattle.planner.specs.Rows.{refusedRow, rowAnswer, noJudgement, verdictOf};
+ghost use Rattle.planner.specs.Calls.{noForm, formReckoned, callRefusal, fundAnswer, boundAnswer, gammasAnswer, formAnswer};
+ghost use Rattle.planner.specs.Verdict.{short, wordOf, bitsOf, noPatternRow, planWordOf, verdictAnswer, judgementOf};
+ghost use Rattle.planner.specs.Arrays.{rolloverArray, ratesArray, constantArray, paymentsRows, commonOf, sharedIn, flowArray, columnOf, Weighable, Prepared};
+ghost use Rattle.planner.specs.Rows.{coefficientsReckoned, refusedRow, rowReckoned, noJudgement, verdictOf};
 ghost use Rattle.planner.specs.Demand3.{FundNear, FormNear, VerdictTrue};
 
 pub struct BoundAnswer {
@@ -33,14 +32,19 @@ pub struct FormAnswer {
     pub value: i64,
 }
 
-// What all patterns of a plan share, beside the payments: the rollover and its weights, the allocation's flow, and -o.
+// What all patterns of a plan share, beside the payments: N, n and q, the allocation (what stands past n plays no part), the
+// rollover and its weights, and the flow of Q.
 pub struct Common {
+    pub years: usize,
+    pub instruments: usize,
+    pub terms: usize,
+    pub allocation: [u32; 16],
     pub rollover: [i64; 30],
     pub weights: [i64; 30],
-    pub flow: [i64; 30],
-    pub outflow: [i64; 30],
+    pub constantflow: [i64; 30],
 }
 
+// What `coefficients_of` answers: K_1 to K_n.
 pub struct Coefficients {
     pub refusal: u8,
     pub values: [i64; 16],
@@ -48,47 +52,28 @@ pub struct Coefficients {
 
 // ---- a plan's numbers, as the core takes them
 
+// The same number, signed.
 fn wide(x: u32) -> i64
     ensures { λ s. ⌜ s ≡ pos x ⌝ }
 {
     x as i64
 }
 
-// The first n numbers, and zeros.
-fn widened(xs: [u32; 30], n: usize) -> [i64; 30]
-    requires { ⌜ n ≤ 30 ⌝ }
-    ensures { λ s. ⌜ s ≡ table 30 n (λ k. pos (getD xs k 0)) (pos 0) ⌝ }
-{
-    let mut v = [0i64; 30];
-    for k in 0..n {
-        v[k] = wide(xs[k]);
-    }
-    v
-}
-
-// The first n amounts, and zeros.
-fn cut(xs: [i64; 30], n: usize) -> [i64; 30]
-    requires { ⌜ n ≤ 30 ⌝ }
-    ensures { λ s. ⌜ s ≡ table 30 n (λ k. getD xs k (pos 0)) (pos 0) ⌝ }
-{
-    let mut v = [0i64; 30];
-    for k in 0..n {
-        v[k] = xs[k];
-    }
-    v
-}
-
-// r_1 to r_q.
+// r_1 to r_q, and zeros past them.
 fn rollover_of(plan: Plan) -> [i64; 30]
     requires { ⌜ Accepted (numbers plan) ⌝ }
     ensures { λ s. ⌜ s ≡ rolloverArray (numbers plan) ⌝ }
 {
     let xs = plan.rollover;
     let q = plan.terms;
-    widened(xs, q)
+    let mut v = [0i64; 30];
+    for d in 0..q {
+        v[d] = wide(xs[d]);
+    }
+    v
 }
 
-// i_2 to i_N of pattern t.
+// i_2 to i_N of pattern t, which counts from 1, and zeros past them; only zeros if N = 1.
 fn rates_of(plan: Plan, t: usize) -> [i64; 30]
     requires { ⌜ Accepted (numbers plan) ⌝ }
     requires { ⌜ 1 ≤ t ⌝ }
@@ -98,12 +83,11 @@ fn rates_of(plan: Plan, t: usize) -> [i64; 30]
     let at = t - 1;
     let pattern = plan.pattern;
     let row = pattern[at];
-    let xs = row.rates;
     let years = plan.years;
-    widened(xs, years - 1)
+    plan::rates(row, years)
 }
 
-// The payments of each instrument.
+// The payments of instruments 1 to n in years 1 to N, and zeros past either.
 fn payments_of(plan: Plan) -> [[i64; 30]; 16]
     requires { ⌜ Accepted (numbers plan) ⌝ }
     ensures { λ s. ⌜ s ≡ paymentsRows (numbers plan) ⌝ }
@@ -114,13 +98,47 @@ fn payments_of(plan: Plan) -> [[i64; 30]; 16]
     let mut rows = [[0i64; 30]; 16];
     for j in 0..n {
         let one = instrument[j];
-        let xs = one.payments;
-        rows[j] = cut(xs, years);
+        rows[j] = plan::payments(one, years);
     }
     rows
 }
 
-// What n instruments pay in year k + 1.
+// The flow of Q, which no allocation changes: -o in years 1 to N, and zeros past them.
+fn constant_flow_of(plan: Plan) -> [i64; 30]
+    requires { ⌜ Accepted (numbers plan) ⌝ }
+    ensures { λ s. ⌜ s ≡ constantArray (numbers plan) ⌝ }
+{
+    let years = plan.years;
+    let o = plan.outflows;
+    let mut v = [0i64; 30];
+    for k in 0..years {
+        v[k] = 0 - o[k];
+    }
+    v
+}
+
+// What all patterns of the plan share.
+fn common_of(plan: Plan) -> Common
+    requires { ⌜ Accepted (numbers plan) ⌝ }
+    ensures { λ s. ⌜ s ≡ commonOf plan ⌝ }
+{
+    let terms = plan.terms;
+    let r = rollover_of(plan);
+    let w = reckoning::weights(r, terms);
+    let constant_flow = constant_flow_of(plan);
+    let p = plan.allocation;
+    Common {
+        years: plan.years,
+        instruments: plan.instruments,
+        terms: terms,
+        allocation: p,
+        rollover: r,
+        weights: w,
+        constantflow: constant_flow,
+    }
+}
+
+// What n instruments pay in year k + 1, and zeros past them.
 fn column(payments: &[[i64; 30]; 16], n: usize, k: usize) -> [i64; 16]
     requires { ⌜ n ≤ 16 ⌝ }
     requires { ⌜ k < 30 ⌝ }
@@ -133,7 +151,7 @@ fn column(payments: &[[i64; 30]; 16], n: usize, k: usize) -> [i64; 16]
     v
 }
 
-// The sum of n amounts, each times its part.
+// The sum of n amounts, each times its part; 0 of none.
 fn weighted(x: [i64; 16], p: [u32; 16], n: usize) -> i64
     requires { ⌜ Weighable n x p ⌝ }
     ensures { λ s. ⌜ s ≡ sum n (λ j. getD x j (pos 0) *ℤ pos (getD p j 0)) ⌝ }
@@ -146,77 +164,68 @@ fn weighted(x: [i64; 16], p: [u32; 16], n: usize) -> i64
     s
 }
 
-// The allocation's flow.
-fn flow_of(plan: Plan, payments: &[[i64; 30]; 16]) -> [i64; 30]
-    requires { ⌜ Accepted (numbers plan) ⌝ }
-    requires { ⌜ now payments ≡ paymentsRows (numbers plan) ⌝ }
-    ensures { λ s. ⌜ s ≡ flowArray (numbers plan) ⌝ }
+// The allocation's flow in years 1 to N, and zeros past them.
+fn flow_of(common: Common, payments: &[[i64; 30]; 16]) -> [i64; 30]
+    requires { ⌜ Prepared common (now payments) ⌝ }
+    ensures { λ s. ⌜ s ≡ flowArray (sharedIn common (now (payments .entry))) ⌝ }
 {
-    let years = plan.years;
-    let n = plan.instruments;
-    let p = plan.allocation;
-    let o = plan.outflows;
+    let years = common.years;
+    let n = common.instruments;
+    let p = common.allocation;
+    let constant = common.constantflow;
     let mut v = [0i64; 30];
     for k in 0..years {
         let c = column(payments, n, k);
         let z = weighted(c, p, n);
-        v[k] = whole::down(z) - o[k];
+        v[k] = whole::down(z) + constant[k];
     }
     v
 }
 
-// The flow -o.
-fn outflow_of(plan: Plan) -> [i64; 30]
-    requires { ⌜ Accepted (numbers plan) ⌝ }
-    ensures { λ s. ⌜ s ≡ outflowArray (numbers plan) ⌝ }
+// ---- one pattern, at the rates i
+
+// The fund of a flow; refused 11, and 0, where check 11 does not take it or a cell.
+fn fund_at(common: Common, flow: &[i64; 30], i: &[i64; 30]) -> Reckoned
+    requires { ⌜ Ready (common .terms) (common .rollover) (common .weights) (now i) ⌝ }
+    requires { ⌜ Amounts (now flow) ⌝ }
+    requires { ⌜ Years (common .years) ⌝ }
+    ensures { λ s. ⌜ s ≡ fundReckoned (sharesOf (common .rollover)) (ratesOf (now (i .entry))) (amountsOf (now (flow .entry))) (common .years) ⌝ }
+    ensures { λ s. ⌜ Within limit (s .fund) ⌝ }
 {
-    let years = plan.years;
-    let o = plan.outflows;
-    let mut v = [0i64; 30];
-    for k in 0..years {
-        v[k] = 0 - o[k];
-    }
-    v
+    let years = common.years;
+    let q = common.terms;
+    let r = common.rollover;
+    let w = common.weights;
+    reckoning::fund(flow, &r, &w, i, years, q)
 }
 
-fn common_of(plan: Plan, payments: &[[i64; 30]; 16]) -> Common
-    requires { ⌜ Accepted (numbers plan) ⌝ }
-    requires { ⌜ now payments ≡ paymentsRows (numbers plan) ⌝ }
-    ensures { λ s. ⌜ s ≡ commonOf (numbers plan) ⌝ }
+// Q, the fund of the flow that no allocation changes; refused 11, and 0, as that of any flow.
+fn constant_at(common: Common, i: &[i64; 30]) -> Reckoned
+    requires { ⌜ Ready (common .terms) (common .rollover) (common .weights) (now i) ⌝ }
+    requires { ⌜ Amounts (common .constantflow) ⌝ }
+    requires { ⌜ Years (common .years) ⌝ }
+    ensures { λ s. ⌜ s ≡ fundReckoned (sharesOf (common .rollover)) (ratesOf (now (i .entry))) (amountsOf (common .constantflow)) (common .years) ⌝ }
+    ensures { λ s. ⌜ Within limit (s .fund) ⌝ }
 {
-    let q = plan.terms;
-    let r = rollover_of(plan);
-    let w = reckoning::weights(r, q);
-    let x = flow_of(plan, payments);
-    let o = outflow_of(plan);
-    Common {
-        rollover: r,
-        weights: w,
-        flow: x,
-        outflow: o,
-    }
+    let constant_flow = common.constantflow;
+    fund_at(common, &constant_flow, i)
 }
 
-// ---- the form at given rates
-
-// The funds of n rows of payments: K_1 to K_n.
-fn coefficients_of(
-    payments: &[[i64; 30]; 16],
-    r: &[i64; 30],
-    w: &[i64; 30],
-    i: &[i64; 30],
-    n: usize,
-    years: usize,
-    q: usize,
-) -> Coefficients
-    requires { ⌜ Ready q (now r) (now w) (now i) ⌝ }
-    requires { ⌜ Payments n (now payments) ⌝ }
-    requires { ⌜ Years years ⌝ }
-    ensures { λ s. ⌜ s ≡ fundsReckoned (sharesOf (now (r .entry))) (ratesOf (now (i .entry))) years n (flowsIn (now (payments .entry))) ⌝ }
+// K_1 to K_n, the funds of the instruments' payments, and zeros past them; refused 11, and all zeros, where check 11 does not take
+// one.
+fn coefficients_of(common: Common, payments: &[[i64; 30]; 16], i: &[i64; 30]) -> Coefficients
+    requires { ⌜ Prepared common (now payments) ⌝ }
+    requires { ⌜ Rates (now i) ⌝ }
+    ensures { λ s. ⌜ s ≡ coefficientsReckoned (sharedIn common (now (payments .entry))) (ratesOf (now (i .entry))) ⌝ }
 {
+    let n = common.instruments;
+    let years = common.years;
+    let q = common.terms;
+    let r = common.rollover;
+    let w = common.weights;
     let mut k = [0i64; 16];
     for j in 0..n {
-        let c = reckoning::fund(&payments[j], r, w, i, years, q);
+        let c = reckoning::fund(&payments[j], &r, &w, i, years, q);
         let no = c.refusal;
         if no != 0 {
             return Coefficients {
@@ -233,6 +242,7 @@ fn coefficients_of(
     }
 }
 
+// The answer for a form that is refused: the refusal's number, and zeros.
 fn no_form(refusal: u8) -> FormAnswer
     ensures { λ s. ⌜ s ≡ noForm refusal ⌝ }
 {
@@ -244,37 +254,25 @@ fn no_form(refusal: u8) -> FormAnswer
     }
 }
 
-// K_1 to K_n, Q and the value at the plan's allocation.
-fn form_at(
-    plan: Plan,
-    outflow: &[i64; 30],
-    payments: &[[i64; 30]; 16],
-    r: &[i64; 30],
-    w: &[i64; 30],
-    i: &[i64; 30],
-) -> FormAnswer
-    requires { ⌜ Accepted (numbers plan) ⌝ }
-    requires { ⌜ now outflow ≡ outflowArray (numbers plan) ⌝ }
-    requires { ⌜ now payments ≡ paymentsRows (numbers plan) ⌝ }
-    requires { ⌜ now r ≡ rolloverArray (numbers plan) ⌝ }
-    requires { ⌜ Ready (plan .terms) (now r) (now w) (now i) ⌝ }
-    ensures { λ s. ⌜ s ≡ formReckoned (numbers plan) (ratesOf (now (i .entry))) ⌝ }
+// K_1 to K_n, Q and the value at the allocation; refused 11, and zeros, where check 11 does not take an instrument or Q.
+fn form_at(common: Common, payments: &[[i64; 30]; 16], i: &[i64; 30]) -> FormAnswer
+    requires { ⌜ Prepared common (now payments) ⌝ }
+    requires { ⌜ Rates (now i) ⌝ }
+    ensures { λ s. ⌜ s ≡ formReckoned (sharedIn common (now (payments .entry))) (ratesOf (now (i .entry))) ⌝ }
 {
-    let n = plan.instruments;
-    let years = plan.years;
-    let q = plan.terms;
-    let c = coefficients_of(payments, r, w, i, n, years, q);
+    let c = coefficients_of(common, payments, i);
     let no = c.refusal;
     if no != 0 {
         return no_form(11);
     }
-    let d = reckoning::fund(outflow, r, w, i, years, q);
+    let d = constant_at(common, i);
     let also = d.refusal;
     if also != 0 {
         return no_form(11);
     }
     let k = c.values;
-    let p = plan.allocation;
+    let p = common.allocation;
+    let n = common.instruments;
     let z = weighted(k, p, n);
     let constant = d.fund;
     FormAnswer {
@@ -287,7 +285,7 @@ fn form_at(
 
 // ---- the calls
 
-// The first of the checks 3, 6 to 9 and 10 that a call on pattern t fails; 0 if none.
+// The first of the checks 3, 6 to 9 and 10 that a call on pattern t fails, 10 for t = 0 and past the last pattern; 0 if none.
 fn call_refusal(plan: Plan, t: usize) -> u8
     ensures { λ s. ⌜ s ≡ callRefusal (numbers plan) t ⌝ }
 {
@@ -305,7 +303,7 @@ fn call_refusal(plan: Plan, t: usize) -> u8
     0
 }
 
-// The fund of the plan's allocation in pattern t.
+// The fund of the plan's allocation in pattern t, which counts from 1; 0 on a refusal: 3, 6 to 9, 10 or 11.
 pub fn fund(plan: Plan, t: usize) -> Reckoned
     ensures is { λ s. ⌜ s ≡ fundAnswer (numbers plan) t ⌝ }
     ensures near { λ s. ⌜ FundNear (numbers plan) t s ⌝ }
@@ -317,17 +315,14 @@ pub fn fund(plan: Plan, t: usize) -> Reckoned
             fund: 0,
         };
     }
-    let years = plan.years;
-    let q = plan.terms;
-    let r = rollover_of(plan);
-    let w = reckoning::weights(r, q);
-    let i = rates_of(plan, t);
+    let common = common_of(plan);
     let payments = payments_of(plan);
-    let x = flow_of(plan, &payments);
-    reckoning::fund(&x, &r, &w, &i, years, q)
+    let flow = flow_of(common, &payments);
+    let i = rates_of(plan, t);
+    fund_at(common, &flow, &i)
 }
 
-// The bound B of pattern t, in amounts.
+// The bound B of pattern t, in amounts; 0 on a refusal: 3, 6 to 9 or 10.
 pub fn bound(plan: Plan, t: usize) -> BoundAnswer
     ensures { λ s. ⌜ s ≡ boundAnswer (numbers plan) t ⌝ }
 {
@@ -347,7 +342,7 @@ pub fn bound(plan: Plan, t: usize) -> BoundAnswer
     }
 }
 
-// The linear form of pattern t: K_1 to K_n, Q, and its value at the plan's allocation.
+// The linear form of pattern t: K_1 to K_n, Q, and its value at the plan's allocation; zeros on a refusal: 3, 6 to 9, 10 or 11.
 pub fn form(plan: Plan, t: usize) -> FormAnswer
     ensures is { λ s. ⌜ s ≡ formAnswer (numbers plan) t ⌝ }
     ensures near { λ s. ⌜ FormNear (numbers plan) t s ⌝ }
@@ -356,16 +351,13 @@ pub fn form(plan: Plan, t: usize) -> FormAnswer
     if no != 0 {
         return no_form(no);
     }
-    let q = plan.terms;
-    let r = rollover_of(plan);
-    let w = reckoning::weights(r, q);
-    let pattern = rates_of(plan, t);
+    let common = common_of(plan);
     let payments = payments_of(plan);
-    let o = outflow_of(plan);
-    form_at(plan, &o, &payments, &r, &w, &pattern)
+    let pattern = rates_of(plan, t);
+    form_at(common, &payments, &pattern)
 }
 
-// The table of gammas of pattern t.
+// The table of gammas of pattern t; zeros on a refusal: 3, 6 to 9, 10 or 11.
 pub fn gammas(plan: Plan, t: usize) -> GammaTable
     ensures { λ s. ⌜ s ≡ gammasAnswer (numbers plan) t ⌝ }
 {
@@ -377,10 +369,11 @@ pub fn gammas(plan: Plan, t: usize) -> GammaTable
             rows: [none; 30],
         };
     }
-    let years = plan.years;
-    let q = plan.terms;
-    let r = rollover_of(plan);
-    let w = reckoning::weights(r, q);
+    let common = common_of(plan);
+    let r = common.rollover;
+    let w = common.weights;
+    let years = common.years;
+    let q = common.terms;
     reckoning::gammas(r, w, rates_of(plan, t), years, q)
 }
 
@@ -414,23 +407,24 @@ pub struct Judgement {
     pub rows: [PatternRow; 64],
 }
 
-// The word of a fund z with the bound b.
-fn word_of(z: i64, b: i64) -> u8
+// The word of a fund z with the bound b, against c: solvent from c on, short where z + b is c or less, else close.
+fn word_of(z: i64, b: i64, c: i64) -> u8
     requires { ⌜ Within limit z ⌝ }
     requires { ⌜ Between (pos 0) (pos 4_294_967_296) b ⌝ }
-    ensures { λ w. ⌜ w ≡ wordOf z b ⌝ }
+    ensures { λ w. ⌜ w ≡ wordOf z b c ⌝ }
 {
-    if z >= 0 {
+    if z >= c {
         return 1;
     }
-    if z + b <= 0 {
+    if z + b <= c {
         return 2;
     }
     3
 }
 
-fn no_pattern() -> PatternRow
-    ensures { λ s. ⌜ s ≡ noPattern ⌝ }
+// The row of no pattern: zeros.
+fn no_pattern_row() -> PatternRow
+    ensures { λ s. ⌜ s ≡ noPatternRow ⌝ }
 {
     PatternRow {
         word: 0,
@@ -441,51 +435,44 @@ fn no_pattern() -> PatternRow
     }
 }
 
+// What a pattern that check 11 refuses comes to.
 fn refused_row() -> OneRow
     ensures { λ s. ⌜ s ≡ refusedRow ⌝ }
 {
-    let none = no_pattern();
+    let none = no_pattern_row();
     OneRow {
         refusal: 11,
         row: none,
     }
 }
 
-// What a pattern of the rates i comes to: each of its flows is reckoned once.
-fn row_at(
-    flow: &[i64; 30],
-    outflow: &[i64; 30],
-    payments: &[[i64; 30]; 16],
-    r: &[i64; 30],
-    w: &[i64; 30],
-    i: &[i64; 30],
-    n: usize,
-    years: usize,
-    q: usize,
-) -> OneRow
-    requires { ⌜ Ready q (now r) (now w) (now i) ⌝ }
-    requires { ⌜ Flows (now flow) (now outflow) n (now payments) ⌝ }
-    requires { ⌜ Years years ⌝ }
-    ensures { λ s. ⌜ s ≡ rowAnswer (sharesOf (now (r .entry))) (ratesOf (now (i .entry))) years n (amountsOf (now (flow .entry))) (amountsOf (now (outflow .entry))) (flowsIn (now (payments .entry))) ⌝ }
+// What a pattern of the rates i comes to, each of its flows reckoned once; refused 11, and zeros, at the first that check 11 does not
+// take.
+fn row_at(common: Common, payments: &[[i64; 30]; 16], flow: &[i64; 30], i: &[i64; 30]) -> OneRow
+    requires { ⌜ Prepared common (now payments) ⌝ }
+    requires { ⌜ now flow ≡ flowArray (sharedIn common (now payments)) ⌝ }
+    requires { ⌜ Rates (now i) ⌝ }
+    ensures { λ s. ⌜ s ≡ rowReckoned (sharedIn common (now (payments .entry))) (ratesOf (now (i .entry))) ⌝ }
 {
-    let c = reckoning::fund(flow, r, w, i, years, q);
+    let c = fund_at(common, flow, i);
     let no = c.refusal;
     if no != 0 {
         return refused_row();
     }
-    let f = coefficients_of(payments, r, w, i, n, years, q);
+    let f = coefficients_of(common, payments, i);
     let also = f.refusal;
     if also != 0 {
         return refused_row();
     }
-    let d = reckoning::fund(outflow, r, w, i, years, q);
+    let d = constant_at(common, i);
     let too = d.refusal;
     if too != 0 {
         return refused_row();
     }
+    let years = common.years;
     let z = c.fund;
     let b = reckoning::bound(i, years);
-    let word = word_of(z, b);
+    let word = word_of(z, b, 0);
     let k = f.values;
     let constant = d.fund;
     let row = PatternRow {
@@ -501,13 +488,14 @@ fn row_at(
     }
 }
 
+// 1 for the word short, 0 for any other.
 fn short_bit(word: u8) -> u64
     ensures { λ s. ⌜ s ≡ pick (eqb word short) 1 0 ⌝ }
 {
     if word == 2 { 1 } else { 0 }
 }
 
-// The short ones of m words as bits, from the last word down.
+// The short ones of m words as bits, the lowest that of the first word, and 0 from bit m on; 0 of no word.
 fn short_bits(words: [u8; 64], m: usize) -> u64
     requires { ⌜ m ≤ 64 ⌝ }
     ensures { λ s. ⌜ s ≡ bitsOf m (λ t. eqb (getD words t 0) short) ⌝ }
@@ -521,7 +509,8 @@ fn short_bits(words: [u8; 64], m: usize) -> u64
     bits
 }
 
-// The plan's word, of its patterns' words and the short ones as bits.
+// The plan's word, of its m patterns' words and the short ones as bits: short if a bit is set, else solvent if every word is, else
+// close.
 fn plan_word(words: [u8; 64], m: usize, bits: u64) -> u8
     requires { ⌜ m ≤ 64 ⌝ }
     ensures { λ s. ⌜ s ≡ planWordOf m (λ t. getD words t 0) bits ⌝ }
@@ -537,7 +526,7 @@ fn plan_word(words: [u8; 64], m: usize, bits: u64) -> u8
     1
 }
 
-// The verdict that m words make.
+// The verdict that m words make, accepted.
 fn verdict_of(words: [u8; 64], m: usize) -> VerdictAnswer
     requires { ⌜ m ≤ 64 ⌝ }
     ensures { λ s. ⌜ s ≡ verdictOf m words ⌝ }
@@ -552,10 +541,11 @@ fn verdict_of(words: [u8; 64], m: usize) -> VerdictAnswer
     }
 }
 
+// The judgement of a plan that is refused: the refusal's number, and zeros.
 fn no_judgement(refusal: u8) -> Judgement
     ensures { λ s. ⌜ s ≡ noJudgement refusal ⌝ }
 {
-    let none = no_pattern();
+    let none = no_pattern_row();
     let verdict = VerdictAnswer {
         refusal: refusal,
         words: [0u8; 64],
@@ -568,30 +558,25 @@ fn no_judgement(refusal: u8) -> Judgement
     }
 }
 
-// Every pattern in turn, until check 11 refuses one, and the verdict that their words make.
+// Every pattern in turn, and the verdict that their words make, with zeros past the last pattern; refused 11, and zeros, at the first
+// pattern that check 11 does not take.
 fn judged(plan: Plan, common: Common, payments: &[[i64; 30]; 16]) -> Judgement
     requires { ⌜ Accepted (numbers plan) ⌝ }
-    requires { ⌜ common ≡ commonOf (numbers plan) ⌝ }
+    requires { ⌜ common ≡ commonOf plan ⌝ }
     requires { ⌜ now payments ≡ paymentsRows (numbers plan) ⌝ }
     ensures { λ s. ⌜ s ≡ judgementOf (numbers plan) ⌝ }
 {
     let m = plan.patterns;
-    let n = plan.instruments;
     let years = plan.years;
-    let q = plan.terms;
     let pattern = plan.pattern;
-    let flow = common.flow;
-    let outflow = common.outflow;
-    let r = common.rollover;
-    let w = common.weights;
-    let none = no_pattern();
+    let flow = flow_of(common, payments);
+    let none = no_pattern_row();
     let mut words = [0u8; 64];
     let mut rows = [none; 64];
     for t in 0..m {
         let one = pattern[t];
-        let xs = one.rates;
-        let i = widened(xs, years - 1);
-        let c = row_at(&flow, &outflow, payments, &r, &w, &i, n, years, q);
+        let i = plan::rates(one, years);
+        let c = row_at(common, payments, &flow, &i);
         let refusal = c.refusal;
         if refusal != 0 {
             return no_judgement(11);
@@ -612,12 +597,12 @@ pub fn judge_accepted(plan: Plan) -> Judgement
     requires { ⌜ Accepted (numbers plan) ⌝ }
     ensures { λ s. ⌜ s ≡ judgementOf (numbers plan) ⌝ }
 {
+    let common = common_of(plan);
     let payments = payments_of(plan);
-    let common = common_of(plan, &payments);
     judged(plan, common, &payments)
 }
 
-// The verdict on a plan, with what each of its patterns comes to.
+// The verdict on a plan, with what each of its patterns comes to; zeros on a refusal: 3, 6 to 9 or 11.
 pub fn judge(plan: Plan) -> Judgement
     ensures { λ s. ⌜ s ≡ judgementOf (numbers plan) ⌝ }
 {
@@ -628,7 +613,7 @@ pub fn judge(plan: Plan) -> Judgement
     judge_accepted(plan)
 }
 
-// The verdict on a plan.
+// The verdict on a plan; zeros on a refusal: 3, 6 to 9 or 11.
 pub fn verdict(plan: Plan) -> VerdictAnswer
     ensures is { λ s. ⌜ s ≡ verdictAnswer (numbers plan) ⌝ }
     ensures near { λ s. ⌜ VerdictTrue (numbers plan) s ⌝ }

@@ -20,7 +20,7 @@ use Rattle.whole.proofs.Sum.{sum-more, sum-cong, sum-zeros, sum-within}
 use Rattle.whole.proofs.Test.{both-second, both-not, all-none, all-more, all-fails, all-at, between-fact}
 use Rattle.whole.proofs.Table.{table-none, table-more, table-at, table-whole}
 use Rattle.reckoning.specs.Reckoning.{w, sent, alpha, fund}
-use Rattle.reckoning.specs.Arrays.{sharesOf, ratesOf, amountsOf, weightsOf, Years, Terms, Amounts, Ready, Before, Invested, alphasOf, alphasFit, fundFits, fundAnswer}
+use Rattle.reckoning.specs.Arrays.{sharesOf, ratesOf, amountsOf, weightsOf, Years, Terms, Amounts, Ready, Before, Invested, alphasOf, alphasFit, fundFits, fundReckoned}
 use Rattle.reckoning.specs.declared.Reckoned.{Reckoned}
 use Rattle.reckoning.proofs.Recursion.{w-zero, w-suc, w-le, alpha-is, fund-is}
 use Rattle.reckoning.proofs.Pattern.{sent-within, shares-le, weight-none, sent-past, share-at, rate-at, amount-at, weight-at, weight-within, share-within-at, weight-past}
@@ -146,8 +146,8 @@ module _ (r i f : List ℤ) {n : ℕ} (years : Years n) where
       fit = all-more j (λ l. isWithin limit (αs l)) (s .fit) (rw e at h);
     }
 
-    pub fill-refuse : isWithin limit z ≡ false → record { refusal = 11; fund = pos 0 } ≡ fundAnswer (sharesOf r) (ratesOf i) (amountsOf f) n
-    unfolding fundAnswer fundFits alphasFit
+    pub fill-refuse : isWithin limit z ≡ false → record { refusal = 11; fund = pos 0 } ≡ fundReckoned (sharesOf r) (ratesOf i) (amountsOf f) n
+    unfolding fundReckoned fundFits alphasFit
     fill-refuse h = rw (all-fails n (λ l. isWithin limit (αs l)) j b (rw e at h))
 
   pub fill-end : {j : ℕ} {v : List ℤ} → n ≤ j → Filled r i f n j v → Filled r i f n n v
@@ -155,8 +155,8 @@ module _ (r i f : List ℤ) {n : ℕ} (years : Years n) where
 
 -- ---- accepted or not, the fund of an answer is within the limit
 module _ (r : ℕ → ℕ) (i f : ℕ → ℤ) (N : ℕ) where
-  pub fund-within : Within limit (fundAnswer r i f N .fund)
-  unfolding fundAnswer fundFits
+  pub fund-within : Within limit (fundReckoned r i f N .fund)
+  unfolding fundReckoned fundFits
   fund-within = go (both (alphasFit r i f N) (isWithin limit (fund r i N f))) refl
     where
       go : (b : Bool) → both (alphasFit r i f N) (isWithin limit (fund r i N f)) ≡ b →
@@ -194,12 +194,12 @@ module _ {q n : ℕ} {v u : List ℤ} (held : Invested q n v u) where
 
 -- ---- the fund of a flow, from its cells
 module _ (r : ℕ → ℕ) (i f : ℕ → ℤ) (N : ℕ) where
-  pub fund-refused : {s : ℤ} → s ≡ fund r i N f → isWithin limit s ≡ false → record { refusal = 11; fund = pos 0 } ≡ fundAnswer r i f N
-  unfolding fundAnswer fundFits
+  pub fund-refused : {s : ℤ} → s ≡ fund r i N f → isWithin limit s ≡ false → record { refusal = 11; fund = pos 0 } ≡ fundReckoned r i f N
+  unfolding fundReckoned fundFits
   fund-refused e h = rw (rw e at h, both-not (alphasFit r i f N))
 
-  pub fund-accepted : {s : ℤ} → s ≡ fund r i N f → alphasFit r i f N ≡ true → isWithin limit s ≡ true → record { refusal = 0; fund = s } ≡ fundAnswer r i f N
-  unfolding fundAnswer fundFits
+  pub fund-accepted : {s : ℤ} → s ≡ fund r i N f → alphasFit r i f N ≡ true → isWithin limit s ≡ true → record { refusal = 0; fund = s } ≡ fundReckoned r i f N
+  unfolding fundReckoned fundFits
   fund-accepted e a h = rw (a, rw e at h, e)
 
 module _ {q : ℕ} {r u i : List ℤ} (ready : Ready q r u i) (f : List ℤ) {v : List ℤ} {n : ℕ} (years : Years n) (filled : Filled r i f n n v) where

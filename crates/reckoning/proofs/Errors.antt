@@ -14,12 +14,12 @@ use Rattle.whole.proofs.Bridge.{_⊕_, _⊗_}
 use Rattle.whole.proofs.Solver.{ring, _≈_}
 use Rattle.whole.proofs.Range.{abs-add, abs-mul}
 use Rattle.whole.proofs.Floor.{rest, rest-lt, floor-is}
-use Rattle.whole.proofs.Sum.{sum-add, sum-abs, sum-nonneg, sumℕ-const}
+use Rattle.whole.proofs.Sum.{sum-add, sum-abs, sum-nonneg, sumℕ-const, largest-upper}
 use Rattle.whole.proofs.Course.{strong}
 use Rattle.reckoning.specs.Reckoning.{w, sent, alpha}
 use Rattle.reckoning.specs.Exact.{E}
-use Rattle.reckoning.specs.Bound.{G}
-use Rattle.reckoning.specs.Theorem.{Given, NotNegative, Floors}
+use Rattle.reckoning.specs.Bound.{h, G}
+use Rattle.reckoning.specs.Theorem.{Given, Floors}
 use Rattle.reckoning.proofs.Recursion.{alpha-is, E-is}
 use Rattle.reckoning.proofs.Powers.{P, P-pred, P-positive}
 use Rattle.reckoning.proofs.Units.{Units, units-self, units-floor, units-recount, units-add, units-sum, units-rest, units-scale, units-times, units-chain, units-later}
@@ -119,30 +119,30 @@ module _ (r : ℕ → ℕ) (i : ℕ → ℤ) (f x : ℕ → ℤ) where
         (ap (λ z. pos (rest (x (1 + j)) million * P j) +ℤ z) (sum-add j (drops j) (passes j))
         ∙ sym (+ℤ-assoc (pos (rest (x (1 + j)) million * P j)) (sum j (drops j)) (sum j (passes j))))))
 
-    -- ---- with no rate below 0, no error is below 0
-    pub err-nonneg : NotNegative i → (j : ℕ) → pos 0 ≤ℤ err j
+    -- ---- with none of the rates i_2 to i_N below 0, no error of the N cells is below 0
+    pub err-nonneg : {N : ℕ} → ((l : ℕ) → l < N - 1 → pos 0 ≤ℤ i (2 + l)) → (j : ℕ) → j < N → pos 0 ≤ℤ err j
     unfolding new passes drops
-    err-nonneg up = strong (λ j. pos 0 ≤ℤ err j) (λ j ih. rw (err-is j)
-        (+ℤ-nonneg (+ℤ-nonneg (pos-nonneg _) (sum-nonneg j (drops j) (λ l b. *ℤ-nonneg (lost-nonneg _ _ _ _ (up (2 + l))) (pos-nonneg _))))
-        (sum-nonneg j (passes j) (λ l b. *ℤ-nonneg (ih l b) (*ℤ-nonneg {b = pos (P (j - l - 1))} (C-nonneg _ _ _ (up (2 + l))) (pos-nonneg _))))))
+    err-nonneg {N} up = strong (λ j. j < N → pos 0 ≤ℤ err j) (λ j ih few. rw (err-is j)
+        (+ℤ-nonneg (+ℤ-nonneg (pos-nonneg _) (sum-nonneg j (drops j) (λ l b. *ℤ-nonneg (lost-nonneg _ _ _ _ (up l (omega arith))) (pos-nonneg _))))
+        (sum-nonneg j (passes j) (λ l b. *ℤ-nonneg (ih l b (omega arith)) (*ℤ-nonneg {b = pos (P (j - l - 1))} (C-nonneg _ _ _ (up l (omega arith))) (pos-nonneg _))))))
 
     -- ---- the sizes
-    module _ (h : ℕ) (given : Given r i h) where
-      drops-size : (j l : ℕ) → l < j → natAbs (drops j l) ≤ 3 * (million * P j)
+    module _ {N : ℕ} (given : Given r i N) where
+      drops-size : (j : ℕ) → j < N → (l : ℕ) → l < j → natAbs (drops j l) ≤ 3 * (million * P j)
       unfolding drops
-      drops-size j l b =
+      drops-size j few l b =
           let t : ℤ = lost (cell l) (r (j - l)) (w r (j - l - 1)) (i (2 + l)) in
-          let s : natAbs t ≤ 3 * (million * million) = lost-size _ _ _ _ (le-trans (given .rates (2 + l)) (given .most)) in
+          let s : natAbs t ≤ 3 * (million * million) = lost-size _ _ _ _ (given .rates l (omega arith)) in
           rw (abs-mul t (pos (million * P (j - 1)))) (omega (arith, mul-le-mul-right (million * P (j - 1)) s, P-pred j (omega arith)))
 
-      new-size : (j : ℕ) → natAbs (new j) < (3 * j + 1) * (million * P j)
+      new-size : (j : ℕ) → j < N → natAbs (new j) < (3 * j + 1) * (million * P j)
       unfolding new
-      new-size j =
+      new-size j few =
           let e : ℕ = rest (x (1 + j)) million in
           omega (
             arith,
             abs-add (pos (e * P j)) (sum j (drops j)),
-            sum-abs j (drops j) (λ l. 3 * (million * P j)) (drops-size j),
+            sum-abs j (drops j) (λ l. 3 * (million * P j)) (drops-size j few),
             sumℕ-const j (3 * (million * P j)),
             mul-le-mul-right (P j) (rest-lt (x (1 + j)) million (omega arith)),
             P-positive j,
@@ -158,5 +158,6 @@ module _ (r : ℕ → ℕ) (i : ℕ → ℤ) (f x : ℕ → ℤ) where
       err-size : (j : ℕ) → natAbs (err j) ≤ natAbs (new j) + sumℕ j (λ l. natAbs (err l) * passed r (natAbs (i (2 + l))) (j - l - 1))
       err-size j = rw (err-is j) (le-trans (abs-add (new j) (sum j (passes j))) (add-le-add (le-refl _) (sum-abs j (passes j) _ (passes-size j))))
 
-      pub err-outstanding : (N : ℕ) → 1 ≤ N → outstanding r (λ l. natAbs (err l)) N < G h (N + 1) * P N
-      err-outstanding = outstanding-below r (given .shares) h (λ l. natAbs (i (2 + l))) (λ l. natAbs (err l)) (λ j. natAbs (new j)) (λ l. given .rates (2 + l)) err-size new-size
+      pub err-outstanding : outstanding r (λ l. natAbs (err l)) N < G (h i N) (N + 1) * P N
+      unfolding h
+      err-outstanding = outstanding-below r (given .shares) _ N (λ l. natAbs (i (2 + l))) (λ l. natAbs (err l)) (λ j. natAbs (new j)) (largest-upper (N - 1) _) err-size new-size (given .years)

@@ -19,7 +19,7 @@ use Rattle.whole.proofs.Test.{all-none, all-more, all-fails, all-at, all-cong, 
 use Rattle.whole.proofs.Table.{table-none, table-more, table-at, table-cong, table-set, table-same}
 use Rattle.reckoning.specs.Reckoning.{w, sent}
 use Rattle.reckoning.specs.Gamma.{unit, gamma}
-use Rattle.reckoning.specs.Arrays.{sharesOf, ratesOf, Years, Ready, Joins, noRow, rowOf, rowsOf, rowFits, RowsBefore, gammasAnswer}
+use Rattle.reckoning.specs.Arrays.{sharesOf, ratesOf, Years, Ready, Joins, noRow, gammaRow, gammaRows, gammaRowFits, RowsBefore, gammasReckoned}
 use Rattle.reckoning.specs.declared.Row.{Row}
 use Rattle.reckoning.proofs.Recursion.{alpha-is}
 use Rattle.reckoning.proofs.Pattern.{rate-at, share-at, weight-at, weight-within, share-within-at, sent-within, sent-past}
@@ -107,8 +107,8 @@ row-start n j q rows r u i p y h = record {
 
 module _ {n j q : ℕ} {rows : List Row} {r u i v : List ℤ} {c : ℕ} (s : Rowing n j q rows r u i v c) where
   gamma-within : (m l : ℕ) → m < j → l < n → Within limit (gamma (sharesOf r) (ratesOf i) (2 + m) (1 + l))
-  unfolding rowFits
-  gamma-within m l e b = between-fact _ _ _ (all-at n _ l b (all-at j (rowFits (sharesOf r) (ratesOf i) n) m e (s .before .fit)))
+  unfolding gammaRowFits
+  gamma-within m l e b = between-fact _ _ _ (all-at n _ l b (all-at j (gammaRowFits (sharesOf r) (ratesOf i) n) m e (s .before .fit)))
 
   -- what a row sends, by the arrays
   sends-is : (m l : ℕ) → m < j → sent (gamma (sharesOf r) (ratesOf i) (2 + m) (1 + l)) (getD r (j - m - 1) (pos 0)) (getD u (j - m - 1) (pos 0)) (getD i m (pos 0)) ≡ sends (sharesOf r) (ratesOf i) j l m
@@ -127,10 +127,10 @@ module _ {n j q : ℕ} {rows : List Row} {r u i v : List ℤ} {c : ℕ} (s : Row
 
   module _ (b : c < j) where
     earlier-is : (l : ℕ) → l < n → getD (getD rows c (record { values = [] }) .values) l (pos 0) ≡ gamma (sharesOf r) (ratesOf i) (2 + c) (1 + l)
-    unfolding rowsOf rowOf
+    unfolding gammaRows gammaRow
     earlier-is l e =
         ap (λ (x : List Row). getD (getD x c (record { values = [] }) .values) l (pos 0)) (s .before .is)
-        ∙ ap (λ (x : Row). getD (x .values) l (pos 0)) (table-at 30 j (rowOf (sharesOf r) (ratesOf i) n) noRow _ c b (omega (arith, s .before .few, s .years .few)))
+        ∙ ap (λ (x : Row). getD (x .values) l (pos 0)) (table-at 30 j (gammaRow (sharesOf r) (ratesOf i) n) noRow _ c b (omega (arith, s .before .few, s .years .few)))
         ∙ table-at 30 n _ (pos 0) (pos 0) l e (s .years .few)
 
     pub row-joins : Joins n v (getD rows c (record { values = [] }) .values) (getD r (j - c - 1) (pos 0)) (getD u (j - c - 1) (pos 0)) (getD i c (pos 0))
@@ -158,8 +158,8 @@ module _ {n j q : ℕ} {rows : List Row} {r u i v : List ℤ} {c : ℕ} (s : Row
           ∙ ap (λ (z : ℤ). unit (1 + l) (1 + j) +ℤ z) (sum-more (sends (sharesOf r) (ratesOf i) j l) c refl refl));
     }
 
-  pub row-end : j ≤ c → record { values = v } ≡ rowOf (sharesOf r) (ratesOf i) n j
-  unfolding rowOf
+  pub row-end : j ≤ c → record { values = v } ≡ gammaRow (sharesOf r) (ratesOf i) n j
+  unfolding gammaRow
   row-end b = ap (λ (x : List ℤ). record { values = x })
       (s .is ∙ ap (λ (m : ℕ). table 30 n (partly (sharesOf r) (ratesOf i) j m) (pos 0)) (omega (arith, s .upto)) ∙ table-cong 30 n _ _ (pos 0) (λ l e. sym (gamma-is (sharesOf r) (ratesOf i) j l)))
 
@@ -188,37 +188,37 @@ module _ (r : ℕ → ℕ) (i : ℕ → ℤ) (n : ℕ) where
   -- the array has the first j rows, and check 11 takes them
   pub record Filling (rows : List Row) (j : ℕ) : Type 0 where
     pub upto : j ≤ n
-    pub is : rows ≡ rowsOf r i n j
-    pub fit : all j (rowFits r i n) ≡ true
+    pub is : rows ≡ gammaRows r i n j
+    pub fit : all j (gammaRowFits r i n) ≡ true
 
   pub fill-start : Filling (replicate 30 noRow) 0
-  unfolding rowsOf
-  fill-start = record { upto = omega arith; is = sym (table-none 30 (rowOf r i n) noRow); fit = all-none (rowFits r i n) }
+  unfolding gammaRows
+  fill-start = record { upto = omega arith; is = sym (table-none 30 (gammaRow r i n) noRow); fit = all-none (gammaRowFits r i n) }
 
   module _ (rows : List Row) (j : ℕ) (s : Filling rows j) where
     pub rows-before : j < n → RowsBefore r i n j rows
     rows-before b = record { few = b; is = s .is; fit = s .fit }
 
-    module _ (few : n ≤ 30) (b : j < n) (x : Row) (e : x ≡ rowOf r i n j) where
-      tested : all n (entryFits (x .values)) ≡ rowFits r i n j
-      unfolding rowOf rowFits
+    module _ (few : n ≤ 30) (b : j < n) (x : Row) (e : x ≡ gammaRow r i n j) where
+      tested : all n (entryFits (x .values)) ≡ gammaRowFits r i n j
+      unfolding gammaRow gammaRowFits
       tested = all-cong n _ _ (λ l h. ap (isWithin limit) (ap (λ (y : Row). getD (y .values) l (pos 0)) e ∙ table-at 30 n _ (pos 0) (pos 0) l h few))
 
       pub fill-turn : all n (entryFits (x .values)) ≡ true → Filling (set rows j x) (j + 1)
-      unfolding rowsOf
+      unfolding gammaRows
       fill-turn h = record {
         upto = omega arith;
-        is = ap₂ (λ (ys : List Row) (y : Row). set ys j y) (s .is) e ∙ table-more 30 j (rowOf r i n) noRow (omega arith);
-        fit = all-more j (rowFits r i n) (s .fit) (sym tested ∙ h);
+        is = ap₂ (λ (ys : List Row) (y : Row). set ys j y) (s .is) e ∙ table-more 30 j (gammaRow r i n) noRow (omega arith);
+        fit = all-more j (gammaRowFits r i n) (s .fit) (sym tested ∙ h);
       }
 
-      pub fill-fails : all n (entryFits (x .values)) ≡ false → record { refusal = 11; rows = replicate 30 noRow } ≡ gammasAnswer r i n
-      unfolding gammasAnswer
-      fill-fails h = rw (all-fails n (rowFits r i n) j b (sym tested ∙ h))
+      pub fill-fails : all n (entryFits (x .values)) ≡ false → record { refusal = 11; rows = replicate 30 noRow } ≡ gammasReckoned r i n
+      unfolding gammasReckoned
+      fill-fails h = rw (all-fails n (gammaRowFits r i n) j b (sym tested ∙ h))
 
-    pub fill-end : n ≤ j → record { refusal = 0; rows = rows } ≡ gammasAnswer r i n
-    unfolding gammasAnswer
+    pub fill-end : n ≤ j → record { refusal = 0; rows = rows } ≡ gammasReckoned r i n
+    unfolding gammasReckoned
     fill-end b =
         let e : j ≡ n = omega (arith, s .upto) in
-        let f : all n (rowFits r i n) ≡ true = ap (λ (m : ℕ). all m (rowFits r i n)) (sym e) ∙ s .fit in
-        rw (f, s .is ∙ ap (rowsOf r i n) e)
+        let f : all n (gammaRowFits r i n) ≡ true = ap (λ (m : ℕ). all m (gammaRowFits r i n)) (sym e) ∙ s .fit in
+        rw (f, s .is ∙ ap (gammaRows r i n) e)

@@ -1,22 +1,24 @@
 -- The horizon: the exact fund is the reckoned one, with what the last floors leave over and what the cells' errors come to.
-use mathlib.Core.Path.{refl, sym, ap, _∙_, subst₂}
+use mathlib.Core.Path.{_≡_, refl, sym, ap, _∙_, subst₂}
+use mathlib.Core.Bool.{true}
 use Prim.Native.Nat.{ℕ, _+_, _-_, _*_, _≤_, _<_}
 use native.Mathlib.Nat.{le-trans, le-of-eq, mul-le-mul-right, mul-lt-mul-of-pos-right, le-of-lt}
 use native.Mathlib.Omega.{arith}
 use lib.IntN.{ℤ, pos, natAbs, _+ℤ_, _-ℤ_, _*ℤ_}
-use lib.Signed.{_≤ℤ_, _<ℤ_}
+use lib.Signed.{leZ, _≤ℤ_, _<ℤ_}
 use Rattle.whole.specs.Range.{million}
 use Rattle.whole.specs.Floor.{shareOf}
 use Rattle.whole.specs.Sum.{sum, sumℕ}
 use Rattle.whole.proofs.Bridge.{at, #, _⊕_, _⊖_, _⊗_, ⊝, whole}
-use Rattle.whole.proofs.Laws.{pos-nonneg, +ℤ-nonneg, *ℤ-nonneg}
+use Rattle.whole.proofs.Laws.{<ℤ→≤ℤ, pos-nonneg, +ℤ-nonneg, *ℤ-nonneg}
 use Rattle.whole.proofs.Range.{abs-within, abs-self, abs-mul}
 use Rattle.whole.proofs.Floor.{rest, rest-lt}
+use Rattle.whole.proofs.Test.{all-at, le-true}
 use Rattle.whole.proofs.Sum.{sum-add, sum-pos, sum-abs, sum-nonneg, sumℕ-mono, sumℕ-const}
 use Rattle.reckoning.specs.Reckoning.{w, alpha, fund}
 use Rattle.reckoning.specs.Exact.{H}
-use Rattle.reckoning.specs.Bound.{G, B}
-use Rattle.reckoning.specs.Theorem.{Given, NotNegative, Floors, FromBelow, Near}
+use Rattle.reckoning.specs.Bound.{h, G, B}
+use Rattle.reckoning.specs.Theorem.{Given, Floors, FromBelow, Near, noneNegative}
 use Rattle.reckoning.proofs.Recursion.{fund-is, H-is}
 use Rattle.reckoning.proofs.Powers.{P, P-pred, P-positive}
 use Rattle.reckoning.proofs.Units.{Units, units-floor, units-recount, units-sum, units-later}
@@ -28,6 +30,15 @@ pub record Bracket (N c b : ℕ) (z y : ℤ) : Type 0 where
   pub low : ((y -ℤ pos c) *ℤ pos (P N)) ≤ℤ z
   pub high : z <ℤ ((y +ℤ pos b) *ℤ pos (P N))
 
+-- both claims are such brackets
+pub from-below-bracket : {N b : ℕ} {z y : ℤ} → FromBelow N z y b → Bracket N 0 b z y
+unfolding P
+from-below-bracket {N} {y = y} k = record { low = omega (whole, k .low, at ((# y ⊖ # (pos 0)) ⊗ # (pos (P N))), at (# y ⊗ # (pos (P N)))); high = k .high }
+
+pub near-bracket : {N b : ℕ} {z y : ℤ} → Near N z y b → Bracket N b b z y
+unfolding P
+near-bracket k = record { low = <ℤ→≤ℤ (k .low); high = k .high }
+
 pub bracket-from-below : {N b : ℕ} {z y : ℤ} → Bracket N 0 b z y → FromBelow N z y b
 unfolding P
 bracket-from-below {N} {y = y} k = record { low = omega (whole, k .low, at ((# y ⊖ # (pos 0)) ⊗ # (pos (P N))), at (# y ⊗ # (pos (P N)))); high = k .high }
@@ -36,7 +47,7 @@ pub bracket-near : {N c b : ℕ} {z y : ℤ} → c < b → Bracket N c b z y →
 unfolding P
 bracket-near {N} {c} {b} {y = y} l k = record { low = omega (whole, k .low, mul-lt-mul-of-pos-right l (P-positive N), at ((# y ⊖ # (pos c)) ⊗ # (pos (P N))), at ((# y ⊖ # (pos b)) ⊗ # (pos (P N)))); high = k .high }
 
-module _ (r : ℕ → ℕ) (i : ℕ → ℤ) (h : ℕ) (given : Given r i h) (N : ℕ) (some : 1 ≤ N) (f x : ℕ → ℤ) (floors : Floors f x) where
+module _ {r : ℕ → ℕ} {i : ℕ → ℤ} {N : ℕ} (given : Given r i N) (f x : ℕ → ℤ) (floors : Floors f x) where
   -- what the floors at the horizon leave over, and what the cells' errors come to
   abbrev share-rest : ℕ → ℕ
   share-rest l = rest (alpha r i f (2 + l) *ℤ pos (w r (N - l - 1))) million
@@ -52,7 +63,7 @@ module _ (r : ℕ → ℕ) (i : ℕ → ℤ) (h : ℕ) (given : Given r i h) (N 
   H-units = subst₂ (λ z q. Units z q (pos (P N)) (pos dropped +ℤ total)) (sym (H-is r i N x)) (sym (fund-is r i N f))
       (units-recount (units-sum N _ _ (pos (P N)) _ (λ l b.
       units-recount (units-later (pos (w r (N - l - 1))) N l b (err-units r i f x l) (units-floor (alpha r i f (2 + l) *ℤ pos (w r (N - l - 1))) million (omega arith)))
-      (ap pos (omega (arith, P-pred N some))) refl))
+      (ap pos (omega (arith, P-pred N (given .years)))) refl))
       refl
       (sum-add N (λ l. pos (share-rest l * (million * P (N - 1)))) (λ l. err r i f x l *ℤ pos (held r (N - l - 1)))
       ∙ ap (λ z. z +ℤ total) (sum-pos N _)))
@@ -60,19 +71,19 @@ module _ (r : ℕ → ℕ) (i : ℕ → ℤ) (h : ℕ) (given : Given r i h) (N 
   dropped-le : dropped ≤ N * P N
   unfolding dropped
   dropped-le = le-trans (sumℕ-mono N _ (λ l. P N) (λ l b.
-      omega (arith, mul-le-mul-right (million * P (N - 1)) (le-of-lt (rest-lt (alpha r i f (2 + l) *ℤ pos (w r (N - l - 1))) million (omega arith))), P-pred N some)))
+      omega (arith, mul-le-mul-right (million * P (N - 1)) (le-of-lt (rest-lt (alpha r i f (2 + l) *ℤ pos (w r (N - l - 1))) million (omega arith))), P-pred N (given .years))))
       (le-of-eq (sumℕ-const N (P N)))
 
-  total-size : natAbs total < G h (N + 1) * P N
+  total-size : natAbs total < G (h i N) (N + 1) * P N
   unfolding total outstanding
   total-size = omega (
     arith,
-    err-outstanding r i f x floors h given N some,
+    err-outstanding r i f x floors given,
     sum-abs N (λ l. err r i f x l *ℤ pos (held r (N - l - 1))) (λ l. natAbs (err r i f x l) * held r (N - l - 1)) (λ l b. le-of-eq (abs-mul (err r i f x l) (pos (held r (N - l - 1))))),
   )
 
   -- where the errors come to no less than -c
-  bracket : (c : ℕ) → pos 0 ≤ℤ (total +ℤ pos (c * P N)) → Bracket N c (B h N) (H r i N x) (fund r i N f)
+  bracket : (c : ℕ) → pos 0 ≤ℤ (total +ℤ pos (c * P N)) → Bracket N c (B (h i N) N) (H r i N x) (fund r i N f)
   unfolding B
   bracket c low =
       let y : ℤ = fund r i N f in
@@ -87,14 +98,16 @@ module _ (r : ℕ → ℕ) (i : ℕ → ℤ) (h : ℕ) (given : Given r i h) (N 
         at (# total ⊕ # (pos (c * P N))),
         at (# y ⊗ # u ⊕ (# (pos dropped) ⊕ # total)),
         at ((# y ⊖ # (pos c)) ⊗ # u),
-        at ((# y ⊕ # (pos (G h (N + 1) + N))) ⊗ # u),
+        at ((# y ⊕ # (pos (G (h i N) (N + 1) + N))) ⊗ # u),
       )
 
   -- rates of either sign
-  pub fund-bracket : Bracket N (G h (N + 1)) (B h N) (H r i N x) (fund r i N f)
-  fund-bracket = let g : ℕ = G h (N + 1) * P N in bracket (G h (N + 1)) (omega (whole, abs-within g total (le-of-lt total-size) .low, at (⊝ (# (pos g))), at (# total ⊕ # (pos g))))
+  pub fund-bracket : Bracket N (G (h i N) (N + 1)) (B (h i N) N) (H r i N x) (fund r i N f)
+  fund-bracket = let g : ℕ = G (h i N) (N + 1) * P N in bracket (G (h i N) (N + 1)) (omega (whole, abs-within g total (le-of-lt total-size) .low, at (⊝ (# (pos g))), at (# total ⊕ # (pos g))))
 
-  -- no rate below 0
-  pub fund-bracket-nonneg : NotNegative i → Bracket N 0 (B h N) (H r i N x) (fund r i N f)
-  unfolding total
-  fund-bracket-nonneg up = bracket 0 (+ℤ-nonneg {b = pos (0 * P N)} (sum-nonneg N _ (λ l b. *ℤ-nonneg (err-nonneg r i f x floors up l) (pos-nonneg _))) (pos-nonneg _))
+  -- none of the rates i_2 to i_N below 0
+  pub fund-bracket-nonneg : noneNegative i N ≡ true → Bracket N 0 (B (h i N) N) (H r i N x) (fund r i N f)
+  unfolding total noneNegative
+  fund-bracket-nonneg e =
+      let up : (l : ℕ) → l < N - 1 → pos 0 ≤ℤ i (2 + l) = λ l b. le-true (pos 0) (i (2 + l)) (all-at (N - 1) (λ l. leZ (pos 0) (i (2 + l))) l b e) in
+      bracket 0 (+ℤ-nonneg {b = pos (0 * P N)} (sum-nonneg N _ (λ l b. *ℤ-nonneg (err-nonneg r i f x floors up l b) (pos-nonneg _))) (pos-nonneg _))

@@ -3,7 +3,6 @@
 use mathlib.Core.Path.{_≡_}
 use Prim.Native.Nat.{ℕ, zero, suc, _+_, _-_, _*_, _≤_, _<_}
 use native.Mathlib.Nat.{le-refl, le-trans, le-of-eq, le-of-lt, add-le-add, mul-le-mul-left, mul-le-mul-right}
-use native.Mathlib.Numerals.{add-one}
 use native.Mathlib.Omega.{arith}
 use Rattle.whole.specs.Range.{million}
 use Rattle.whole.specs.Sum.{sumℕ, Σℕ}
@@ -35,46 +34,48 @@ module _ (r : ℕ → ℕ) (shares : (d : ℕ) → Σℕ 1 d r ≤ million) wher
   unfolding held
   held-zero = rw (w-zero r, P-zero)
 
-  module _ (h : ℕ) (i e new : ℕ → ℕ)
-      (rates : (l : ℕ) → i l ≤ h)
+  module _ (h N : ℕ) (i e new : ℕ → ℕ)
+      (rates : (l : ℕ) → l < N - 1 → i l ≤ h)
       (errs : (j : ℕ) → e j ≤ new j + sumℕ j (λ l. e l * passed r (i l) (j - l - 1)))
-      (news : (j : ℕ) → new j < (3 * j + 1) * (million * P j))
+      (news : (j : ℕ) → j < N → new j < (3 * j + 1) * (million * P j))
     where
       -- one cell's part in the next year
-      part-suc : (j l : ℕ) → l < j → e l * held r (suc j - l - 1) + million * (e l * passed r (i l) (j - l - 1)) ≤ million * (million + h) * (e l * held r (j - l - 1))
-      part-suc j l b =
+      part-suc : (j : ℕ) → j < N → (l : ℕ) → l < j → e l * held r (suc j - l - 1) + million * (e l * passed r (i l) (j - l - 1)) ≤ million * (million + h) * (e l * held r (j - l - 1))
+      part-suc j few l b =
           let d : ℕ = j - l - 1 in
           let a : suc j - l - 1 ≡ suc (j - l - 1) = omega arith in
-          rw a (omega (arith, mul-le-mul-left (e l) (le-trans (le-of-eq (held-passed (i l) d)) (mul-le-mul-right (held r d) (mul-le-mul-left million (add-le-add (le-refl million) (rates l)))))))
+          rw a (omega (arith, mul-le-mul-left (e l) (le-trans (le-of-eq (held-passed (i l) d)) (mul-le-mul-right (held r d) (mul-le-mul-left million (add-le-add (le-refl million) (rates l (omega arith))))))))
 
-      outstanding-suc : (j : ℕ) → outstanding r e (suc j) ≤ million * (million + h) * outstanding r e j + million * new j
+      outstanding-suc : (j : ℕ) → j < N → outstanding r e (suc j) ≤ million * (million + h) * outstanding r e j + million * new j
       unfolding outstanding
-      outstanding-suc j =
+      outstanding-suc j few =
           let A : ℕ → ℕ = λ l. e l * held r (suc j - l - 1) in
           let B : ℕ → ℕ = λ l. e l * passed r (i l) (j - l - 1) in
           let C : ℕ → ℕ = λ l. e l * held r (j - l - 1) in
           let a : suc j - j - 1 ≡ 0 = omega arith in
-          let s : sumℕ j (λ l. A l + million * B l) ≤ sumℕ j (λ l. million * (million + h) * C l) = sumℕ-mono j _ _ (part-suc j) in
+          let s : sumℕ j (λ l. A l + million * B l) ≤ sumℕ j (λ l. million * (million + h) * C l) = sumℕ-mono j _ _ (part-suc j few) in
           rw (sumℕ-suc j, a, held-zero) (omega (arith, errs j, sumℕ-add j A (λ l. million * B l), sumℕ-scale j million B, sumℕ-scale j (million * (million + h)) C))
 
       outstanding-none : outstanding r e 0 ≡ 0
       unfolding outstanding
       outstanding-none = sumℕ-none (λ l. e l * held r (0 - l - 1))
 
-      outstanding-lt : (j : ℕ) → outstanding r e (suc j) < G h (suc (suc j)) * P (suc j)
-      outstanding-lt zero = rw (G-two h) (omega (arith, rw outstanding-none at (outstanding-suc 0), news 0, P-suc 0))
-      outstanding-lt (suc j) =
+      outstanding-lt : (j : ℕ) → j < N → outstanding r e (suc j) < G h (suc (suc j)) * P (suc j)
+      outstanding-lt zero few = rw (G-two h) (omega (arith, rw outstanding-none at (outstanding-suc 0 few), news 0 few, P-suc 0))
+      outstanding-lt (suc j) few =
           let g : ℕ = G h (suc (suc j)) in
           let p : ℕ = P (suc j) in
           rw (G-suc h j, P-suc (suc j)) (omega (
             arith,
-            outstanding-suc (suc j),
-            news (suc j),
-            mul-le-mul-left (million * (million + h)) (le-of-lt (outstanding-lt j)),
+            outstanding-suc (suc j) few,
+            news (suc j) few,
+            mul-le-mul-left (million * (million + h)) (le-of-lt (outstanding-lt j (omega arith))),
             mul-le-mul-right (million * p) (ceiling-low (g * h)),
           ))
 
       -- of N cells
-      pub outstanding-below : (N : ℕ) → 1 ≤ N → outstanding r e N < G h (N + 1) * P N
-      outstanding-below zero some = absurd (omega arith)
-      outstanding-below (suc j) some = rw (add-one (suc j)) (outstanding-lt j)
+      pub outstanding-below : 1 ≤ N → outstanding r e N < G h (N + 1) * P N
+      outstanding-below some =
+          let e : suc (N - 1) ≡ N = omega arith in
+          let f : suc N ≡ N + 1 = omega arith in
+          rw (e, f) at (outstanding-lt (N - 1) (omega arith))

@@ -1,50 +1,53 @@
--- The theorem (document 01, "Bound, form, verdict"): for every rollover whose shares come to at most 1,000,000, every pattern
--- whose rates are at most h ≤ 1,000,000 without their sign, and every N from 1 on, the fund and the form are as close to the
--- exact fund as their bounds say, and from below where no rate is negative.
+-- The theorem (document 01, "Bound, form, verdict"): for every rollover whose shares come to at most 1,000,000, every N from 1 on, and
+-- every pattern whose rates i_2 to i_N are at most 1,000,000 without their sign, the fund and the form are as close to the exact fund
+-- as their bounds say, and from below where no rate is below zero.
 use mathlib.Core.Path.{_≡_}
-use Prim.Native.Nat.{ℕ, _+_, _*_, _^_, _≤_}
+use Prim.Native.Nat.{ℕ, _+_, _*_, _^_}
 use native.Mathlib.Omega.{arith}
-use lib.IntN.{ℤ, pos, _+ℤ_}
+use lib.IntN.{ℤ, pos, _+ℤ_, _-ℤ_, _*ℤ_}
 use lib.Signed.{_≤ℤ_, _<ℤ_}
 use Rattle.whole.specs.Range.{million}
-use Rattle.whole.specs.Sum.{Σℕ}
-use Rattle.whole.proofs.Bridge.{whole}
-use Rattle.whole.proofs.Laws.{pos-nonneg, *ℤ-nonneg, *ℤ-nonpos, ≤ℤ-sub}
+use Rattle.whole.specs.Sum.{Σℕ, Σℤ}
+use Rattle.whole.proofs.Bridge.{whole, at, #, _⊕_, _⊖_}
+use Rattle.whole.proofs.Laws.{pos-nonneg, ≤ℤ-trans, <ℤ→≤ℤ, *ℤ-mono}
 use Rattle.reckoning.specs.Reckoning.{fund}
-use Rattle.reckoning.specs.Exact.{x, H}
-use Rattle.reckoning.specs.Bound.{G, B, value}
-use Rattle.reckoning.specs.Theorem.{Given, NotNegative, Floors, FromBelow, Near}
+use Rattle.reckoning.specs.Exact.{H}
+use Rattle.reckoning.specs.Bound.{h, B, value}
+use Rattle.reckoning.specs.Theorem.{Given, Floors, FromBelow, Near, Close}
 use Rattle.reckoning.proofs.BoundLaws.{G-below-B}
-use Rattle.reckoning.proofs.Horizon.{bracket-near, bracket-from-below, fund-bracket, fund-bracket-nonneg}
-use Rattle.reckoning.proofs.Form.{form-bracket}
-pub use Rattle.reckoning.proofs.Form.{flow-floors}
+use Rattle.reckoning.proofs.Linear.{H-scale}
+use Rattle.reckoning.proofs.Horizon.{from-below-bracket, near-bracket, bracket-near, bracket-from-below, fund-bracket, fund-bracket-nonneg}
+use Rattle.reckoning.proofs.Form.{whole-floors, form-bracket}
+pub use Rattle.reckoning.proofs.Form.{flow-floors, H-parts}
 
-module _ (r : ℕ → ℕ) (i : ℕ → ℤ) (h : ℕ) (given : Given r i h) (N : ℕ) (some : 1 ≤ N) where
+module _ {r : ℕ → ℕ} {i : ℕ → ℤ} {N : ℕ} (given : Given r i N) where
   -- the fund of any flow: a plan's is one by `flow-floors`
-  pub fund-near : (f x : ℕ → ℤ) → Floors f x → Near N (H r i N x) (fund r i N f) (B h N)
-  fund-near f x floors = bracket-near (G-below-B h N some) (fund-bracket r i h given N some f x floors)
+  pub fund-close : (f x : ℕ → ℤ) → Floors f x → Close i N (H r i N x) (fund r i N f) (B (h i N) N)
+  fund-close f x floors = record {
+    either = bracket-near (G-below-B (h i N) N (given .years)) (fund-bracket given f x floors);
+    below = λ up. bracket-from-below (fund-bracket-nonneg given f x floors up);
+  }
 
-  pub fund-from-below : NotNegative i → (f x : ℕ → ℤ) → Floors f x → FromBelow N (H r i N x) (fund r i N f) (B h N)
-  fund-from-below up f x floors = bracket-from-below (fund-bracket-nonneg r i h given N some f x floors up)
+  -- that of a flow in whole amounts, as an instrument's is
+  pub amounts-close : (y : ℕ → ℤ) → Close i N (H r i N y *ℤ pos million) (fund r i N y) (B (h i N) N)
+  amounts-close y = rw (← H-scale r i N (pos million) y) (fund-close y (λ k. y k *ℤ pos million) (whole-floors y))
 
-  -- the form of n instruments
-  module _ (n : ℕ) (a : ℕ → ℕ → ℤ) (o : ℕ → ℤ) (p : ℕ → ℕ) (shared : Σℕ 1 n p ≡ million) where
-    pub form-near : Near N (H r i N (x n a o p)) (value a o r i N n p) (2 * B h N + 1)
-    form-near = bracket-near (omega (arith, G-below-B h N some)) (form-bracket r i N (G h (N + 1)) (B h N) (fund-bracket r i h given N some) n a o p shared)
+-- the form of any coefficients K, each close to its exact part y, and any constant Q, close to x: what they are parts of is z, by
+-- `H-parts` the exact fund of a plan
+pub form-close : {i : ℕ → ℤ} {N b : ℕ} (n : ℕ) (p : ℕ → ℕ) → Σℕ 1 n p ≡ million → {K y : ℕ → ℤ} → ((j : ℕ) → Close i N (y j) (K j) b) → {Q x : ℤ} → Close i N x Q b →
+    {z : ℤ} → z *ℤ pos million ≡ x *ℤ pos million +ℤ Σℤ 1 n (λ j. y j *ℤ pos (p j)) → Close i N z (value n K Q p) (2 * b + 1)
+form-close n p shared each own parts = record {
+  either = bracket-near (omega arith) (form-bracket n p shared (λ j. near-bracket (each j .either)) (near-bracket (own .either)) parts);
+  below = λ up. bracket-from-below (form-bracket n p shared (λ j. from-below-bracket (each j .below up)) (from-below-bracket (own .below up)) parts);
+}
 
-    pub form-from-below : NotNegative i → FromBelow N (H r i N (x n a o p)) (value a o r i N n p) (2 * B h N + 1)
-    form-from-below up = bracket-from-below (form-bracket r i N 0 (B h N) (λ f x floors. fund-bracket-nonneg r i h given N some f x floors up) n a o p shared)
+-- ---- the words against c, of an exact fund z and a number y with bound b
+module _ {N b : ℕ} {z y : ℤ} (c : ℤ) where
+  pub exactly-solvent : FromBelow N z y b → c ≤ℤ y → (c *ℤ pos (10 ^ (12 * N))) ≤ℤ z
+  exactly-solvent k s = ≤ℤ-trans (*ℤ-mono (pos-nonneg _) s) (k .low)
 
--- ---- the words, of an exact fund z and a number y with bound b
-module _ {N b : ℕ} {z y : ℤ} where
-  pub solvent : FromBelow N z y b → pos 0 ≤ℤ y → pos 0 ≤ℤ z
-  solvent k s = omega (whole, k .low, *ℤ-nonneg s (pos-nonneg (10 ^ (12 * N))))
+  pub exactly-solvent-near : Near N z y b → (c +ℤ pos b) ≤ℤ y → (c *ℤ pos (10 ^ (12 * N))) ≤ℤ z
+  exactly-solvent-near k s = let l : c ≤ℤ (y -ℤ pos b) = omega (whole, s, at (# c ⊕ # (pos b)), at (# y ⊖ # (pos b))) in ≤ℤ-trans (*ℤ-mono (pos-nonneg _) l) (<ℤ→≤ℤ (k .low))
 
-  pub short : FromBelow N z y b → (y +ℤ pos b) ≤ℤ pos 0 → z <ℤ pos 0
-  short k s = omega (whole, k .high, *ℤ-nonpos s (pos-nonneg (10 ^ (12 * N))))
-
-  pub solvent-near : Near N z y b → pos b ≤ℤ y → pos 0 ≤ℤ z
-  solvent-near k s = omega (whole, k .low, *ℤ-nonneg (≤ℤ-sub s) (pos-nonneg (10 ^ (12 * N))))
-
-  pub short-near : Near N z y b → (y +ℤ pos b) ≤ℤ pos 0 → z <ℤ pos 0
-  short-near k s = omega (whole, k .high, *ℤ-nonpos s (pos-nonneg (10 ^ (12 * N))))
+  pub exactly-short : Near N z y b → (y +ℤ pos b) ≤ℤ c → z <ℤ (c *ℤ pos (10 ^ (12 * N)))
+  exactly-short k s = let l : ((y +ℤ pos b) *ℤ pos (10 ^ (12 * N))) ≤ℤ (c *ℤ pos (10 ^ (12 * N))) = *ℤ-mono (pos-nonneg _) s in omega (whole, k .high, l)

@@ -78,8 +78,8 @@ module _ (r : ℕ → ℕ) (i : ℕ → ℤ) (f : ℕ → ℤ) where
   fundFits N = both (alphasFit N) (isWithin limit (fund r i N f))
 
   -- the fund, unless check 11 refuses it or a cell
-  unfoldable pub fundAnswer : (N : ℕ) → Reckoned
-  fundAnswer N = pick (fundFits N)
+  unfoldable pub fundReckoned : (N : ℕ) → Reckoned
+  fundReckoned N = pick (fundFits N)
       (record { refusal = 0; fund = fund r i N f })
       (record { refusal = 11; fund = pos 0 })
 
@@ -105,25 +105,25 @@ noRow = record { values = replicate 30 (pos 0) }
 
 module _ (r : ℕ → ℕ) (i : ℕ → ℤ) (N : ℕ) where
   -- row 2 + j, entries 1 to N
-  unfoldable pub rowOf : (j : ℕ) → Row
-  rowOf j = record { values = table 30 N (λ l. gamma r i (2 + j) (1 + l)) (pos 0) }
+  unfoldable pub gammaRow : (j : ℕ) → Row
+  gammaRow j = record { values = table 30 N (λ l. gamma r i (2 + j) (1 + l)) (pos 0) }
 
   -- the first j rows, from row 2 on
-  unfoldable pub rowsOf : (j : ℕ) → List Row
-  rowsOf j = table 30 j rowOf noRow
+  unfoldable pub gammaRows : (j : ℕ) → List Row
+  gammaRows j = table 30 j gammaRow noRow
 
   -- check 11 for row 2 + j
-  unfoldable pub rowFits : (j : ℕ) → Bool
-  rowFits j = all N (λ l. isWithin limit (gamma r i (2 + j) (1 + l)))
+  unfoldable pub gammaRowFits : (j : ℕ) → Bool
+  gammaRowFits j = all N (λ l. isWithin limit (gamma r i (2 + j) (1 + l)))
 
   -- the array holds the j < N rows before row 2 + j, and check 11 takes them
   pub record RowsBefore (j : ℕ) (rows : List Row) : Type 0 where
     pub few : j < N
-    pub is : rows ≡ rowsOf j
-    pub fit : all j rowFits ≡ true
+    pub is : rows ≡ gammaRows j
+    pub fit : all j gammaRowFits ≡ true
 
   -- the table, unless check 11 refuses one of its cells
-  unfoldable pub gammasAnswer : GammaTable
-  gammasAnswer = pick (all N rowFits)
-      (record { refusal = 0; rows = rowsOf N })
+  unfoldable pub gammasReckoned : GammaTable
+  gammasReckoned = pick (all N gammaRowFits)
+      (record { refusal = 0; rows = gammaRows N })
       (record { refusal = 11; rows = replicate 30 noRow })

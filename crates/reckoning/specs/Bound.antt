@@ -1,10 +1,9 @@
 -- Document 01, "Bound, form, verdict".
 use Prim.Native.Nat.{ℕ, zero, suc, _+_, _-_, _*_, _/_}
-use lib.IntN.{ℤ, pos, negℤ, natAbs, _+ℤ_, _*ℤ_}
+use lib.IntN.{ℤ, pos, natAbs, _+ℤ_, _*ℤ_}
 use Rattle.whole.specs.Range.{million}
 use Rattle.whole.specs.Floor.{floor}
 use Rattle.whole.specs.Sum.{Σℤ, largest}
-use Rattle.reckoning.specs.Reckoning.{fund}
 
 -- h: the largest of the rates i_2 to i_N, each without its sign; 0 if N = 1
 unfoldable pub h : (i : ℕ → ℤ) → (N : ℕ) → ℕ
@@ -25,16 +24,6 @@ G h zero = 0
 unfoldable pub B : (h : ℕ) → (N : ℕ) → ℕ
 B h N = G h (N + 1) + N
 
--- the linear form (document 004, equation 9), for n instruments
-module _ (a : ℕ → ℕ → ℤ) (o : ℕ → ℤ) (r : ℕ → ℕ) (i : ℕ → ℤ) (N : ℕ) where
-  -- K_j: the fund of instrument j's payments
-  unfoldable pub K : ℕ → ℤ
-  K j = fund r i N (λ k. a k j)
-
-  -- Q: the fund of the outflows
-  unfoldable pub Q : ℤ
-  Q = fund r i N (λ k. negℤ (o k))
-
-  -- the form's value at the allocation p
-  unfoldable pub value : (n : ℕ) (p : ℕ → ℕ) → ℤ
-  value n p = floor (Σℤ 1 n (λ j. K j *ℤ pos (p j))) million +ℤ Q
+-- the value of the linear form with the coefficients K_1 to K_n and the constant Q at the allocation p (document 004, equation 9)
+unfoldable pub value : (n : ℕ) (K : ℕ → ℤ) (Q : ℤ) (p : ℕ → ℕ) → ℤ
+value n K Q p = floor (Σℤ 1 n (λ j. K j *ℤ pos (p j))) million +ℤ Q

@@ -1,14 +1,14 @@
 -- Document 01, "Tilley's exact fund" (document 004, equations 3 and 7), in unbounded whole numbers.
 use Prim.Native.Nat.{ℕ, _+_, _-_, _*_, _^_}
-use lib.IntN.{ℤ, pos, _+ℤ_, _-ℤ_, _*ℤ_}
+use lib.IntN.{ℤ, pos, _+ℤ_, _*ℤ_}
 use Rattle.whole.specs.Range.{million}
 use Rattle.whole.specs.Sum.{Σℤ}
 use Rattle.whole.specs.Course.{course}
 use Rattle.reckoning.specs.Reckoning.{w, paid}
 
--- x_k: the exact flow of year k, in millionths of an amount
-unfoldable pub x : (n : ℕ) (a : ℕ → ℕ → ℤ) (o : ℕ → ℤ) (p : ℕ → ℕ) → ℕ → ℤ
-x n a o p k = paid n a p k -ℤ pos million *ℤ o k
+-- x_k: the exact flow of year k, in millionths of an amount; c_k, which no allocation changes, is -o_k
+unfoldable pub x : (n : ℕ) (a : ℕ → ℕ → ℤ) (c : ℕ → ℤ) (p : ℕ → ℕ) → ℕ → ℤ
+x n a c p k = paid n a p k +ℤ pos million *ℤ c k
 
 module _ (r : ℕ → ℕ) (i : ℕ → ℤ) where
   -- C(k, l): what cell l sends into cell k, in units of 10^-12

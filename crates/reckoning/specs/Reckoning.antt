@@ -1,7 +1,7 @@
 -- Document 01, "The yearly reckoning". Indices are the paper's: r_1 to r_q, i_2 to i_N, years 1 to N, cells 2 to N + 1.
 -- Each letter is a function of its index that is 0 where the plan has no such number.
 use Prim.Native.Nat.{ℕ, _+_, _-_}
-use lib.IntN.{ℤ, pos, _+ℤ_, _-ℤ_, _*ℤ_}
+use lib.IntN.{ℤ, pos, _+ℤ_, _*ℤ_}
 use Rattle.whole.specs.Range.{million}
 use Rattle.whole.specs.Floor.{floor, shareOf}
 use Rattle.whole.specs.Sum.{Σℕ, Σℤ}
@@ -15,9 +15,9 @@ w r d = million - Σℕ 1 d r
 unfoldable pub paid : (n : ℕ) (a : ℕ → ℕ → ℤ) (p : ℕ → ℕ) → ℕ → ℤ
 paid n a p k = Σℤ 1 n (λ j. a k j *ℤ pos (p j))
 
--- the allocation's flow in year k
-unfoldable pub flow : (n : ℕ) (a : ℕ → ℕ → ℤ) (o : ℕ → ℤ) (p : ℕ → ℕ) → ℕ → ℤ
-flow n a o p k = floor (paid n a p k) million -ℤ o k
+-- the allocation's flow in year k: what it pays, in whole amounts, and c_k, which no allocation changes (-o_k)
+unfoldable pub flow : (n : ℕ) (a : ℕ → ℕ → ℤ) (c : ℕ → ℤ) (p : ℕ → ℕ) → ℕ → ℤ
+flow n a c p k = floor (paid n a p k) million +ℤ c k
 
 -- what a cell of x sends into a later one: the share r that matures, and interest at the rate i on the share w that was invested
 unfoldable pub sent : (x r w i : ℤ) → ℤ

@@ -11,7 +11,7 @@ ghost use Rattle.whole.specs.Test.{all, isWithin};
 ghost use Rattle.whole.specs.Table.{table};
 ghost use Rattle.reckoning.specs.Reckoning.{sent as sentOf, alpha};
 ghost use Rattle.reckoning.specs.Bound.{h as largestOf, B};
-ghost use Rattle.reckoning.specs.Arrays.{sharesOf, ratesOf, amountsOf, Years, Terms, Rates, Amounts, Ready, weightsOf, Before, Invested, fundAnswer, Joins, RowsBefore, rowOf, gammasAnswer};
+ghost use Rattle.reckoning.specs.Arrays.{sharesOf, ratesOf, amountsOf, Years, Terms, Rates, Amounts, Ready, weightsOf, Before, Invested, fundReckoned, Joins, RowsBefore, gammaRow, gammasReckoned};
 
 pub struct Reckoned {
     pub refusal: u8,
@@ -29,7 +29,7 @@ pub struct GammaTable {
 
 // ---- the cells and the fund
 
-// w(0) to w(29): what is left of 1,000,000 after each of the q shares, and then nothing.
+// w(0) to w(29): 1,000,000 first, then what is left of it after each of the q shares, and 0 from w(q) on.
 pub fn weights(r: [i64; 30], q: usize) -> [i64; 30]
     requires { ⌜ Terms q r ⌝ }
     ensures { λ s. ⌜ s ≡ weightsOf (sharesOf r) ⌝ }
@@ -43,7 +43,8 @@ pub fn weights(r: [i64; 30], q: usize) -> [i64; 30]
     v
 }
 
-// What a cell of x sends into a later one: the share r that matures, and interest at the rate i on the share w that was invested.
+// What a cell of x sends into a later one: the share r that matures, and interest at the rate i on the share w that was invested;
+// nothing where r and w are 0, as they are past the last term.
 fn sent(x: i64, r: i64, w: i64, i: i64) -> i64
     requires { ⌜ Within limit x ⌝ }
     requires { ⌜ Within million r ⌝ }
@@ -57,7 +58,8 @@ fn sent(x: i64, r: i64, w: i64, i: i64) -> i64
     a + c
 }
 
-// The first of the j cells before a cell that can send it anything: older ones are past the q terms of the rollover.
+// The first of the j cells before a cell that can send it anything, as older ones are past the q terms of the rollover; 0 where
+// all j can.
 fn first(j: usize, q: usize) -> usize
     ensures { λ s. ⌜ s ≡ j - q ⌝ }
 {
@@ -67,7 +69,7 @@ fn first(j: usize, q: usize) -> usize
     j - q
 }
 
-// Cell j, from its flow and the cells before it.
+// Cell j, which counts from 0, from its flow and the j cells before it; the first is its flow alone.
 fn cell(
     flow: &[i64; 30],
     r: &[i64; 30],
@@ -92,7 +94,7 @@ fn cell(
     s
 }
 
-// No cell and no fund is taken outside this.
+// Check 11 takes z: its limit, 10^12 on either side, is taken, and one more is not.
 fn fits(z: i64) -> bool
     ensures { λ b. ⌜ b ≡ isWithin limit z ⌝ }
 {
@@ -105,7 +107,7 @@ fn fits(z: i64) -> bool
     true
 }
 
-// What n cells still have invested at the horizon.
+// What n cells still have invested at the horizon; 0 of none.
 fn total(v: &[i64; 30], w: &[i64; 30], n: usize, q: usize) -> i64
     requires { ⌜ Invested q n (now v) (now w) ⌝ }
     ensures { λ s. ⌜ s ≡ sum n (λ k. shareOf (getD (now (v .entry)) k (pos 0)) (getD (now (w .entry)) (n - k - 1) (pos 0))) ⌝ }
@@ -120,7 +122,7 @@ fn total(v: &[i64; 30], w: &[i64; 30], n: usize, q: usize) -> i64
     s
 }
 
-// The fund of a flow over n years, unless check 11 refuses it or a cell.
+// The fund of a flow over n years; refused 11, and 0, where check 11 does not take it or a cell.
 pub fn fund(
     flow: &[i64; 30],
     r: &[i64; 30],
@@ -132,7 +134,7 @@ pub fn fund(
     requires { ⌜ Ready q (now r) (now w) (now i) ⌝ }
     requires { ⌜ Amounts (now flow) ⌝ }
     requires { ⌜ Years n ⌝ }
-    ensures { λ s. ⌜ s ≡ fundAnswer (sharesOf (now (r .entry))) (ratesOf (now (i .entry))) (amountsOf (now (flow .entry))) n ⌝ }
+    ensures { λ s. ⌜ s ≡ fundReckoned (sharesOf (now (r .entry))) (ratesOf (now (i .entry))) (amountsOf (now (flow .entry))) n ⌝ }
     ensures { λ s. ⌜ Within limit (s .fund) ⌝ }
 {
     let mut v = [0i64; 30];
@@ -169,7 +171,7 @@ fn size(x: i64) -> i64
     if x < 0 { -x } else { x }
 }
 
-// h: the largest of the rates i_2 to i_n, without their signs.
+// h: the largest of the rates i_2 to i_n, without their signs; 0 where n is 1.
 fn largest(i: &[i64; 30], n: usize) -> i64
     requires { ⌜ Rates (now i) ⌝ }
     requires { ⌜ Years n ⌝ }
@@ -186,7 +188,7 @@ fn largest(i: &[i64; 30], n: usize) -> i64
     most
 }
 
-// B of a pattern's rates over n years.
+// B of a pattern's rates over n years; 2 where n is 1, whatever the rates.
 pub fn bound(i: &[i64; 30], n: usize) -> i64
     requires { ⌜ Rates (now i) ⌝ }
     requires { ⌜ Years n ⌝ }
@@ -203,7 +205,7 @@ pub fn bound(i: &[i64; 30], n: usize) -> i64
 
 // ---- the gammas
 
-// A row of n entries, and what an earlier row sends into each.
+// A row of n entries with what an earlier row sends into each, and zeros past them.
 fn joined(row: [i64; 30], earlier: Row, r: i64, w: i64, i: i64, n: usize) -> [i64; 30]
     requires { ⌜ Joins n row (earlier .values) r w i ⌝ }
     ensures { λ s. ⌜ s ≡ table 30 n (λ l. getD row l (pos 0) +ℤ sentOf (getD (earlier .values) l (pos 0)) r w i) (pos 0) ⌝ }
@@ -216,7 +218,7 @@ fn joined(row: [i64; 30], earlier: Row, r: i64, w: i64, i: i64, n: usize) -> [i6
     v
 }
 
-// Row j, from the rows before it.
+// Row j, which counts from 0, from the j rows before it: 1,000,000,000 at its own place j, and zeros past it.
 fn next_row(
     rows: [Row; 30],
     r: [i64; 30],
@@ -229,7 +231,7 @@ fn next_row(
     requires { ⌜ Ready q r w i ⌝ }
     requires { ⌜ Years n ⌝ }
     requires { ⌜ RowsBefore (sharesOf r) (ratesOf i) n j rows ⌝ }
-    ensures { λ s. ⌜ s ≡ rowOf (sharesOf r) (ratesOf i) n j ⌝ }
+    ensures { λ s. ⌜ s ≡ gammaRow (sharesOf r) (ratesOf i) n j ⌝ }
 {
     let from = first(j, q);
     let mut v = [0; 30];
@@ -242,7 +244,7 @@ fn next_row(
     Row { values: v }
 }
 
-// Every entry of a row is within the limit of check 11.
+// Check 11 takes each of the first n entries of a row; true of none.
 fn row_fits(row: Row, n: usize) -> bool
     requires { ⌜ n ≤ 30 ⌝ }
     ensures { λ b. ⌜ b ≡ all n (λ l. isWithin limit (getD (row .values) l (pos 0))) ⌝ }
@@ -256,11 +258,11 @@ fn row_fits(row: Row, n: usize) -> bool
     true
 }
 
-// The table of gammas over n years, unless check 11 refuses one of its cells.
+// The table of gammas over n years, with zeros past them; refused 11, and all zeros, where check 11 does not take one of its cells.
 pub fn gammas(r: [i64; 30], w: [i64; 30], i: [i64; 30], n: usize, q: usize) -> GammaTable
     requires { ⌜ Ready q r w i ⌝ }
     requires { ⌜ Years n ⌝ }
-    ensures { λ s. ⌜ s ≡ gammasAnswer (sharesOf r) (ratesOf i) n ⌝ }
+    ensures { λ s. ⌜ s ≡ gammasReckoned (sharesOf r) (ratesOf i) n ⌝ }
 {
     let none = Row { values: [0; 30] };
     let mut rows = [none; 30];

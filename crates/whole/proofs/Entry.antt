@@ -1,5 +1,5 @@
 -- The laws of entries by the papers' index.
-use mathlib.Core.Path.{_≡_, refl, sym, ap, _∙_, subst}
+use mathlib.Core.Path.{_≡_, refl, sym, ap, _∙_, subst, fun-ext}
 use mathlib.Core.Logic.{⊎-elim}
 use Prim.Native.Nat.{ℕ, zero, suc, _+_, _≤_, _<_}
 use native.Mathlib.Numerals.{one-add}
@@ -82,6 +82,13 @@ entry-cong z n f g h (suc j) = ⊎-elim
 -- the same with a count on either side
 pub entry-same : {A : Type 0} (z : A) {n m : ℕ} (f g : ℕ → A) → n ≡ m → ((j : ℕ) → j < n → f j ≡ g j) → (k : ℕ) → entry z n f k ≡ entry z m g k
 entry-same z {n} f g e h k = rw (← e) (entry-cong z n f g h k)
+
+-- entries are those of their own values, and entries that are all z are z at every index
+pub entry-own : {A : Type 0} (z : A) (n : ℕ) (f : ℕ → A) → entry z n f ≡ entry z n (λ k. entry z n f (1 + k))
+entry-own z n f = fun-ext (entry-cong z n f _ (λ k l. sym (entry-at z n f k l)))
+
+pub entry-none : {A : Type 0} (z : A) (n : ℕ) → (λ (k : ℕ). z) ≡ entry z n (λ k. z)
+entry-none z n = sym (fun-ext (entry-each z n (λ k. z) (λ a. a ≡ z) refl (λ k l. refl)))
 
 -- a function that is z outside 1 to n, in an array: read by index, the array is the function
 pub table-held : {A : Type 0} (z : A) (f : ℕ → A) {n m : ℕ} → n ≤ m → f 0 ≡ z → ((k : ℕ) → n < k → f k ≡ z) → (k : ℕ) → nth z (table m n (λ k. f (1 + k)) z) k ≡ f k

@@ -8,5 +8,6 @@ pub mod Floor
 pub mod Sum
 pub mod Course
 pub mod Table
+pub mod Filling
 pub mod Entry
 pub mod Case

@@ -2,7 +2,7 @@
 use borrow.Author.Needs.{needs}
 use Rattle.planner.specs.Verdict.{noVerdict, verdictAnswer}
 use Rattle.planner.proofs.VerdictLaws.{verdict-judged}
-use Rattle.planfile.proofs.Numbers.{accepted-read}
+use Rattle.planfile.proofs.Answers.{accepted-read}
 use Rattle.becketgrape.specs.Calls.{verdictOfFile}
 use Rattle.becketgrape.proofs.OnFile.{file-refused, file-called}
 use Rattle.becketgrape.proofs.verdict_of_file.Statement.{statement}

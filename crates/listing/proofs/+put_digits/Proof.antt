@@ -29,7 +29,7 @@ abbrev claims : ℕ → put-digits-lts.Claims
 claims t = (digit-reads.Asked, digit-reads.Learnt, put-byte-reads.Asked, put-byte-reads.Learnt, put-digits-below t, put-digits.Post)
 
 put-digits-returns : (t : ℕ) → put-digits-lts.Need-returns (claims t) (put-digits-at t) put-digits.Post
-put-digits-returns t c = put-none _ (c .if1 .taken)
+put-digits-returns t c = (put-none _ (c .if1 .taken), omega arith)
 
 put-digits-digit-requires : (t : ℕ) → put-digits-lts.Need-digit-requires (claims t) (put-digits-at t) put-digits.Post
 put-digits-digit-requires t c κs = search needs
@@ -43,7 +43,7 @@ put-digits-same-length t c = search needs
 put-digits-returns-2 : (t : ℕ) → put-digits-lts.Need-returns-2 (claims t) (put-digits-at t) put-digits.Post
 put-digits-returns-2 t c =
     let d = c .before .before .before in
-    put-one _ (d .before .before .before .if1 .left) (d .before .before .if2 .taken) (d .digit .ensures) (c .before .before .put-byte .ensures)
+    (put-one _ (d .before .before .before .if1 .left) (d .before .before .if2 .taken) (d .digit .ensures) (c .before .before .put-byte .ensures), omega arith)
 
 put-digits-sub-put-digits : (t : ℕ) → put-digits-lts.Need-sub-put-digits (claims t) (put-digits-at t) put-digits.Post
 put-digits-sub-put-digits t c = search needs
@@ -63,7 +63,7 @@ put-digits-same-length-2 t c = search needs
 put-digits-returns-3 : (t : ℕ) → put-digits-lts.Need-returns-3 (claims t) (put-digits-at t) put-digits.Post
 put-digits-returns-3 t c =
     let d = c .before .before .before in
-    put-more _ (d .before .before .before .before .before .before .before .if1 .left) (omega arith) (d .digit2 .ensures) (d .before .before .before .before .put-digits .ensures) (c .before .before .put-byte2 .ensures)
+    (put-more _ (d .before .before .before .before .before .before .before .if1 .left) (omega arith) (d .digit2 .ensures) (d .before .before .before .before .put-digits .ensures .0) (c .before .before .put-byte2 .ensures), omega arith)
 
 pub +put-digits-spec : {M : Type 1} → statement M
 +put-digits-spec = close μ-put-digits λ t. put-digits-lts.spec (claims t)

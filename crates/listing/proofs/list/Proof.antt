@@ -2,9 +2,10 @@
 use native.Mathlib.Omega.{arith}
 use borrow.Author.Needs.{needs}
 use Rattle.little_endian.proofs.LittleEndian.{bytes-lent}
-use Rattle.planfile.proofs.Numbers.{accepted-read}
+use Rattle.little_endian.proofs.Wrote.{wrote-as}
+use Rattle.planfile.proofs.Answers.{accepted-read}
 use Rattle.listing.proofs.File.{text-refused, text-judged}
-use Rattle.listing.proofs.Wrote.{wrote-as, listed}
+use Rattle.listing.proofs.Putting.{listed}
 use Rattle.listing.proofs.Demands.{demands}
 use Rattle.listing.proofs.list.Statement.{statement}
 use Rattle.listing.proofs.list.Tie as tie
@@ -19,7 +20,7 @@ returns : tie.Need-returns
 returns c =
     let i = c .before .before in
     let r = i .before in
-    let l = listed (omega arith) (search needs) (wrote-as (text-refused _ (r .read .ensures .0) (i .if1 .taken)) (c .put-refused .ensures)) in
+    let l = listed (omega arith) (search needs) (wrote-as (text-refused _ (r .read .ensures .0) (i .if1 .taken)) (c .put-refused .ensures .0)) in
     (l .0, (l .1, demands (bytes-lent (r .before .shared-slice-known .given))))
 
 judge-accepted-requires : tie.Need-judge-accepted-requires
@@ -35,7 +36,7 @@ returns-2 : tie.Need-returns-2
 returns-2 c =
     let s = c .before .before .before .before in
     let t = text-judged _ (s .before .read .ensures .0) (s .if1 .left) (c .before .judge-accepted .ensures) in
-    let l = listed (omega arith) (search needs) (wrote-as t (c .put-judgement .ensures)) in
+    let l = listed (omega arith) (search needs) (wrote-as t (c .put-judgement .ensures .0)) in
     (l .0, (l .1, demands (bytes-lent (s .before .before .shared-slice-known .given))))
 
 pub list-spec : {M : Type 1} → statement M

@@ -5,8 +5,8 @@ use borrow.Author.Needs.{needs}
 use mir.Syntax.{w64}
 use mir.Val.{SFits}
 use Rattle.whole.proofs.Range.{back}
+use Rattle.little_endian.proofs.Wrote.{wrote-then, wrote-as}
 use Rattle.listing.specs.Text.{field, amountsText}
-use Rattle.listing.proofs.Wrote.{wrote-then, wrote-more, wrote-as}
 use Rattle.listing.proofs.put_amounts.Statement.{statement}
 use Rattle.listing.proofs.put_amounts.Tie as tie
 
@@ -35,12 +35,14 @@ returns c =
     let row = a .before .before .before .before .args .row in
     let e : SFits w64 (row .fund) = search (needs, s .struct-told3 .given) in
     let f : SFits w64 (row .bound) = search (needs, s .struct-told3 .given) in
-    let g : SFits w64 (row .constant) = search (needs, s .struct-told3 .given) in
-    wrote-more (omega arith) (wrote-then (wrote-then (wrote-then
-    (wrote-as (ap field (back e)) (a .put-field .ensures))
-    (wrote-as (ap field (back f)) (b .put-field2 .ensures)))
-    (k .put-fields .ensures))
-    (wrote-as (ap field (back g)) (c .before .before .put-field3 .ensures)))
+    let g : SFits w64 (row .constant) = search (needs, s .struct-told3 .given) in (
+      wrote-then (wrote-then (wrote-then
+          (wrote-as (ap field (back e)) (a .put-field .ensures .0))
+          (wrote-as (ap field (back f)) (b .put-field2 .ensures .0)))
+          (k .put-fields .ensures .0))
+          (wrote-as (ap field (back g)) (c .before .before .put-field3 .ensures .0)),
+      omega arith,
+    )
 
 pub put-amounts-spec : {M : Type 1} → statement M
 put-amounts-spec =

@@ -1,23 +1,24 @@
--- `listing::put_bytes` copies byte after byte (Wrote, `Series`).
+-- `listing::put_bytes` copies byte after byte (`Putting`).
 use mathlib.Core.Path.{refl}
 use Prim.Native.Nat.{_+_, _-_}
 use native.Mathlib.Nat.{add-zero}
+use native.Mathlib.Numerals.{add-one}
 use native.Mathlib.Omega.{arith}
 use borrow.Author.Needs.{needs}
 use lib.ListN.{length, take}
 use lib.Seq.{take-suc, take-length}
-use Rattle.listing.proofs.Wrote.{Series, wrote-more, wrote-as, series-start, series-turn, series-end}
+use Rattle.little_endian.proofs.Wrote.{Putting, wrote-as, wrote-byte, putting-none, putting-more, putting-all}
 use Rattle.listing.proofs.put_bytes.Statement.{statement}
 use Rattle.listing.proofs.put_bytes.Tie as tie
 
 abbrev Inv-loop : tie.InvT-loop
-Inv-loop b₀ at text k₀ b k = Series 1 (λ k. take k text) b₀ b at (at + k) (length text) k
+Inv-loop b₀ at text k₀ b k = Putting 1 (length text) (λ k. take k text) b₀ at b (at + k) k
 
 abbrev μ-loop : tie.MeasureT-loop
 μ-loop b₀ at text k₀ b k = length text - k
 
 loop-holds : tie.Need-loop-holds Inv-loop μ-loop
-loop-holds c = rw add-zero (series-start refl)
+loop-holds c = rw add-zero (putting-none (omega arith) refl)
 
 shared-slice-read-b : tie.Need-shared-slice-read-b Inv-loop μ-loop
 shared-slice-read-b c = search needs
@@ -26,7 +27,7 @@ add-b : tie.Need-add-b Inv-loop μ-loop
 add-b c = search needs
 
 slice-write-b : tie.Need-slice-write-b Inv-loop μ-loop
-slice-write-b c = omega (arith, c .before .before .loop .inv .same)
+slice-write-b c = omega (arith, c .before .before .loop .inv .length-kept)
 
 add-k : tie.Need-add-k Inv-loop μ-loop
 add-k c = search needs
@@ -36,17 +37,17 @@ loop-less c = omega arith
 
 loop-again : tie.Need-loop-again Inv-loop μ-loop
 loop-again c =
-    series-turn (omega arith) (take-suc _ _ 0 (c .before .loop-test .taken)) (c .before .before .loop .inv)
-    (record { is = refl; next = omega arith; within = omega arith })
+    let t = c .before .loop-test .taken in
+    putting-more (c .before .before .loop .inv) t (wrote-byte _ (omega arith)) (omega arith) (rw add-one (take-suc _ _ 0 t))
 
 add-result : tie.Need-add-result Inv-loop μ-loop
-add-result c = omega (arith, c .before .loop .inv .few)
+add-result c = omega (arith, c .before .loop .inv .count)
 
 same-length : tie.Need-same-length Inv-loop μ-loop
-same-length c = c .before .loop .inv .same
+same-length c = c .before .loop .inv .length-kept
 
 returns : tie.Need-returns Inv-loop μ-loop
-returns c = wrote-as (take-length _) (wrote-more (omega arith) (series-end (omega arith) (c .before .loop .inv)))
+returns c = wrote-as (take-length _) (putting-all (c .before .loop .inv) (c .loop-test .left))
 
 pub put-bytes-spec : {M : Type 1} → statement M
 put-bytes-spec =

@@ -1,6 +1,7 @@
--- `listing::put_fields` puts down field after field (Wrote, `Series`).
+-- `listing::put_fields` puts down field after field (`Putting`).
 use mathlib.Core.Path.{refl, ap}
 use Prim.Native.Nat.{_-_}
+use native.Mathlib.Numerals.{add-one}
 use native.Mathlib.Omega.{arith}
 use borrow.Author.Needs.{needs}
 use lib.ListN.{getD}
@@ -8,20 +9,20 @@ use lib.IntN.{pos}
 use mir.Syntax.{w64}
 use mir.Val.{SFits}
 use Rattle.whole.proofs.Range.{back}
+use Rattle.little_endian.proofs.Wrote.{Putting, room-more, wrote-as, putting-none, putting-more, putting-all}
 use Rattle.listing.specs.Text.{field, fields}
-use Rattle.listing.proofs.Wrote.{Series, wrote-as, series-start, series-turn, series-end}
 use Rattle.listing.proofs.put_fields.Statement.{statement}
 use Rattle.listing.proofs.put_fields.Tie as tie
 
 abbrev Inv-loop : tie.InvT-loop
-Inv-loop b₀ at n amounts p₀ k₀ b p k = Series 22 (λ k. fields k amounts) b₀ b at p n k
+Inv-loop b₀ at n amounts p₀ k₀ b p k = Putting 22 n (λ k. fields k amounts) b₀ at b p k
 
 abbrev μ-loop : tie.MeasureT-loop
 μ-loop b₀ at n amounts p₀ k₀ b p k = n - k
 
 loop-holds : tie.Need-loop-holds Inv-loop μ-loop
 unfolding fields
-loop-holds c = series-start refl
+loop-holds c = putting-none (c .before .pre .1) refl
 
 mul-z : tie.Need-mul-z Inv-loop μ-loop
 mul-z c = search needs
@@ -30,7 +31,7 @@ array-copy-out-z : tie.Need-array-copy-out-z Inv-loop μ-loop
 array-copy-out-z c = search needs
 
 put-field-requires : tie.Need-put-field-requires Inv-loop μ-loop
-put-field-requires c κs = let i = c .before .before .before .loop .inv in omega (arith, i .wrote .within, i .same)
+put-field-requires c κs = let d = c .before .before in room-more (d .before .loop .inv) (d .loop-test .taken)
 
 add-k : tie.Need-add-k Inv-loop μ-loop
 add-k c = search needs
@@ -43,13 +44,14 @@ unfolding fields
 loop-again c =
     let s = c .before .before .before .before .before .before in
     let f : SFits w64 (getD (s .before .before .args .t3) (s .loop .k) (pos 0)) = record { sfits = c .before .before .before .before .z .given } in
-    series-turn (omega arith) refl (s .loop .inv) (wrote-as (ap field (back f)) (c .before .before .put-field .ensures))
+    let w = c .before .before .put-field .ensures in
+    putting-more (s .loop .inv) (omega arith) (wrote-as (ap field (back f)) (w .0)) (w .1) (rw add-one)
 
 same-length : tie.Need-same-length Inv-loop μ-loop
-same-length c = c .before .loop .inv .same
+same-length c = c .before .loop .inv .length-kept
 
 returns : tie.Need-returns Inv-loop μ-loop
-returns c = series-end (omega arith) (c .before .loop .inv)
+returns c = let i = c .before .loop .inv in (putting-all i (c .loop-test .left), omega (arith, i .here, i .count))
 
 pub put-fields-spec : {M : Type 1} → statement M
 put-fields-spec =

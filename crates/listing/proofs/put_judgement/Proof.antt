@@ -3,8 +3,8 @@ use mathlib.Core.Path.{sym}
 use native.Mathlib.Omega.{arith}
 use borrow.Author.Needs.{needs}
 use Rattle.plan.proofs.Checks.{answer-refused, answer-accepted}
+use Rattle.little_endian.proofs.Wrote.{wrote-then, wrote-as}
 use Rattle.listing.specs.Text.{refusedText, judgementText}
-use Rattle.listing.proofs.Wrote.{wrote-then, wrote-more, wrote-as}
 use Rattle.listing.proofs.put_judgement.Statement.{statement}
 use Rattle.listing.proofs.put_judgement.Tie as tie
 
@@ -18,7 +18,7 @@ returns : tie.Need-returns
 unfolding judgementText
 returns c =
     let s = c .before .before in
-    wrote-as (sym (answer-refused refusedText _ _ (s .before .before .if1 .taken))) (wrote-more (omega arith) (s .put-refused .ensures))
+    (wrote-as (sym (answer-refused refusedText _ _ (s .before .before .if1 .taken))) (s .put-refused .ensures .0), omega arith)
 
 put-lines-requires : tie.Need-put-lines-requires
 put-lines-requires c κs = search needs
@@ -32,9 +32,11 @@ same-length-2 c = search needs
 returns-2 : tie.Need-returns-2
 unfolding judgementText
 returns-2 c =
-    let s = c .before .before .before .before .before .before in
-    wrote-as (sym (answer-accepted refusedText _ _ (s .before .before .before .if1 .left)))
-    (wrote-more (omega arith) (wrote-then (s .put-lines .ensures) (c .before .before .put-last .ensures)))
+    let s = c .before .before .before .before .before .before in (
+      wrote-as (sym (answer-accepted refusedText _ _ (s .before .before .before .if1 .left)))
+          (wrote-then (s .put-lines .ensures .0) (c .before .before .put-last .ensures .0)),
+      omega arith,
+    )
 
 pub put-judgement-spec : {M : Type 1} → statement M
 put-judgement-spec =

@@ -1,7 +1,8 @@
 -- `listing::put_refused` puts down its word, the number and a line feed.
+use native.Mathlib.Omega.{arith}
 use borrow.Author.Needs.{needs}
+use Rattle.little_endian.proofs.Wrote.{wrote-then}
 use Rattle.listing.specs.Text.{refusedText}
-use Rattle.listing.proofs.Wrote.{wrote-then}
 use Rattle.listing.proofs.put_refused.Statement.{statement}
 use Rattle.listing.proofs.put_refused.Tie as tie
 
@@ -24,7 +25,7 @@ returns : tie.Need-returns
 unfolding refusedText
 returns c =
     let n = c .before .before .before .before .before .before in
-    wrote-then (wrote-then (n .before .before .before .before .put-bytes .ensures) (n .put-digits .ensures)) (c .before .before .put-byte .ensures)
+    (wrote-then (wrote-then (n .before .before .before .before .put-bytes .ensures) (n .put-digits .ensures .0)) (c .before .before .put-byte .ensures), omega arith)
 
 pub put-refused-spec : {M : Type 1} → statement M
 put-refused-spec =

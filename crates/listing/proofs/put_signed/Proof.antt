@@ -3,8 +3,8 @@ use native.Mathlib.Omega.{arith}
 use borrow.Author.Needs.{needs}
 use mir.Syntax.{w64}
 use Rattle.little_endian.proofs.TwosComplement.{same-cast, flip-fits, flip-cast, flip-small}
+use Rattle.little_endian.proofs.Wrote.{wrote-then, wrote-as}
 use Rattle.listing.proofs.Decimal.{nonneg-text, negative-text}
-use Rattle.listing.proofs.Wrote.{wrote-then, wrote-more, wrote-as}
 use Rattle.listing.proofs.put_signed.Statement.{statement}
 use Rattle.listing.proofs.put_signed.Tie as tie
 
@@ -20,7 +20,7 @@ same-length c = search needs
 returns : tie.Need-returns
 returns c =
     let s = c .before .before .before .before in
-    wrote-as (nonneg-text _ (s .before .before .fits .z) (s .if1 .taken)) (wrote-more (omega arith) (c .before .before .put-digits .ensures))
+    (wrote-as (nonneg-text _ (s .before .before .fits .z) (s .if1 .taken)) (c .before .before .put-digits .ensures .0), omega arith)
 
 put-byte-requires : tie.Need-put-byte-requires
 put-byte-requires c κs = search needs
@@ -49,7 +49,7 @@ same-length-2 c = search needs
 returns-2 : tie.Need-returns-2
 returns-2 c =
     let s = c .before .before .before .before .before .before .before .before in
-    wrote-as (negative-text _ (s .before .before .fits .z) (s .if1 .left)) (wrote-then (c .before .before .before .before .before .before .put-byte .ensures) (c .before .before .put-digits2 .ensures))
+    (wrote-as (negative-text _ (s .before .before .fits .z) (s .if1 .left)) (wrote-then (c .before .before .before .before .before .before .put-byte .ensures) (c .before .before .put-digits2 .ensures .0)), omega arith)
 
 pub put-signed-spec : {M : Type 1} → statement M
 put-signed-spec =

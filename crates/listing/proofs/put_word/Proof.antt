@@ -3,8 +3,8 @@ use mathlib.Core.Path.{sym, ap}
 use native.Mathlib.Omega.{arith}
 use borrow.Author.Tests.{ne-eqb}
 use borrow.Author.Needs.{needs}
+use Rattle.little_endian.proofs.Wrote.{wrote-as}
 use Rattle.listing.specs.Text.{wordText}
-use Rattle.listing.proofs.Wrote.{wrote-more, wrote-as}
 use Rattle.listing.proofs.put_word.Statement.{statement}
 use Rattle.listing.proofs.put_word.Tie as tie
 
@@ -19,7 +19,7 @@ same-length c = search needs
 
 returns : tie.Need-returns
 unfolding wordText
-returns c = wrote-as (sym (ap wordText (c .before .before .before .before .before .if1 .taken))) (c .before .before .put-bytes .ensures)
+returns c = (wrote-as (sym (ap wordText (c .before .before .before .before .before .if1 .taken))) (c .before .before .put-bytes .ensures), omega arith)
 
 slice-aggregate-put-bytes-2 : tie.Need-slice-aggregate-put-bytes-2
 slice-aggregate-put-bytes-2 c = search needs
@@ -32,7 +32,7 @@ same-length-2 c = search needs
 
 returns-2 : tie.Need-returns-2
 unfolding wordText
-returns-2 c = wrote-as (sym (ap wordText (c .before .before .before .before .before .if2 .taken))) (wrote-more (omega arith) (c .before .before .put-bytes2 .ensures))
+returns-2 c = (wrote-as (sym (ap wordText (c .before .before .before .before .before .if2 .taken))) (c .before .before .put-bytes2 .ensures), omega arith)
 
 slice-aggregate-put-bytes-3 : tie.Need-slice-aggregate-put-bytes-3
 slice-aggregate-put-bytes-3 c = search needs
@@ -47,7 +47,7 @@ returns-3 : tie.Need-returns-3
 unfolding wordText
 returns-3 c =
     let s = c .before .before .before .before .before in
-    wrote-as (rw (ne-eqb _ 1 (s .before .if1 .left), ne-eqb _ 2 (s .if2 .left))) (wrote-more (omega arith) (c .before .before .put-bytes3 .ensures))
+    (wrote-as (rw (ne-eqb _ 1 (s .before .if1 .left), ne-eqb _ 2 (s .if2 .left))) (c .before .before .put-bytes3 .ensures), omega arith)
 
 pub put-word-spec : {M : Type 1} → statement M
 put-word-spec =

@@ -5,6 +5,7 @@ use Prim.Native.Nat.{_-_, _≤_}
 use borrow.Author.Needs.{needs}
 use lib.IntN.{ℤ, pos}
 use lib.ListN.{getD}
+use denote.Ref.{now}
 use mir.Syntax.{w64}
 use mir.Val.{SFits, toZ}
 use Rattle.whole.specs.Test.{all, isBetween}
@@ -14,10 +15,10 @@ use Rattle.plan.proofs.amounts_ok.Statement.{statement}
 use Rattle.plan.proofs.amounts_ok.Tie as tie
 
 abbrev Inv-loop : tie.InvT-loop
-Inv-loop n low high xs k₀ k = (k ≤ n) × (all k (λ k. isBetween (toZ w64 low) (toZ w64 high) (getD xs k (pos 0))) ≡ true)
+Inv-loop xs n low high k₀ k = (k ≤ n) × (all k (λ k. isBetween (toZ w64 low) (toZ w64 high) (getD xs k (pos 0))) ≡ true)
 
 abbrev μ-loop : tie.MeasureT-loop
-μ-loop n low high xs k₀ k = n - k
+μ-loop xs n low high k₀ k = n - k
 
 loop-holds : tie.Need-loop-holds Inv-loop μ-loop
 loop-holds c = (search needs, all-none _)
@@ -25,15 +26,15 @@ loop-holds c = (search needs, all-none _)
 mul-z : tie.Need-mul-z Inv-loop μ-loop
 mul-z c = search needs
 
-array-copy-out-z : tie.Need-array-copy-out-z Inv-loop μ-loop
-array-copy-out-z c = search needs
+shared-slice-copy-out-z : tie.Need-shared-slice-copy-out-z Inv-loop μ-loop
+shared-slice-copy-out-z c = search needs
 
 module _ (c : tie.After-z Inv-loop μ-loop) where
   abbrev start : tie.Start Inv-loop μ-loop
   start = c .before .before .before
 
   abbrev amount : ℤ
-  amount = getD (start .args .t1) (c .before .before .loop .k) (pos 0)
+  amount = getD (now (start .args .xs)) (c .before .before .loop .k) (pos 0)
 
   amount-fits : SFits w64 amount
   amount-fits = record { sfits = c .z .given }
@@ -82,7 +83,7 @@ amounts-ok-spec =
     μ-loop
     loop-holds
     mul-z
-    array-copy-out-z
+    shared-slice-copy-out-z
     returns
     returns-2
     add-k

@@ -1,19 +1,23 @@
 -- `plan::payments_ok` is the test of all payments: those of the instruments before j have passed.
-use mathlib.Core.Path.{_≡_, sym, _∙_}
+use mathlib.Core.Path.{_≡_, sym, ap, _∙_}
 use mathlib.Core.Bool.{true}
+use mathlib.Core.List.{List}
 use Prim.Native.Nat.{ℕ, _-_, _≤_}
 use native.Mathlib.Omega.{arith}
 use borrow.Author.Needs.{needs}
 use borrow.Author.Tests.{not-true, not-false}
+use lib.IntN.{ℤ}
+use lib.ListN.{length}
 use Rattle.whole.specs.Test.{all}
+use Rattle.whole.proofs.Table.{length-table}
 use Rattle.whole.proofs.Test.{all-none, all-more, all-fails, all-end}
 use Rattle.plan.specs.declared.Plan.{Plan}
-use Rattle.plan.proofs.Checks.{paymentsHeld, payments-ok}
+use Rattle.plan.proofs.Checks.{upTo, paymentsTested, payments-ok}
 use Rattle.plan.proofs.payments_ok.Statement.{statement}
 use Rattle.plan.proofs.payments_ok.Tie as tie
 
 abbrev Inv-loop : tie.InvT-loop
-Inv-loop n years instrument j₀ j = (j ≤ n) × (all j (paymentsHeld instrument years) ≡ true)
+Inv-loop n years instrument j₀ j = (j ≤ n) × (all j (paymentsTested instrument years) ≡ true)
 
 abbrev μ-loop : tie.MeasureT-loop
 μ-loop n years instrument j₀ j = n - j
@@ -27,12 +31,18 @@ mul-row c = omega arith
 array-copy-out-row : tie.Need-array-copy-out-row Inv-loop μ-loop
 array-copy-out-row c = omega arith
 
+payments-requires : tie.Need-payments-requires Inv-loop μ-loop
+payments-requires c κs = omega arith
+
+slice-aggregate-amounts-ok : tie.Need-slice-aggregate-amounts-ok Inv-loop μ-loop
+slice-aggregate-amounts-ok c = search needs
+
 amounts-ok-requires : tie.Need-amounts-ok-requires Inv-loop μ-loop
-amounts-ok-requires c κs = omega arith
+amounts-ok-requires c κs = let l = ap length (c .before .payments .ensures) ∙ length-table 30 _ _ _ (omega arith) in omega arith
 
 module _ (c : tie.After-amounts-ok Inv-loop μ-loop) where
   abbrev turn : tie.In-loop Inv-loop μ-loop
-  turn = c .before .before .before
+  turn = c .before .before .before .before
 
   abbrev j : ℕ
   j = turn .before .loop .j
@@ -40,13 +50,13 @@ module _ (c : tie.After-amounts-ok Inv-loop μ-loop) where
   abbrev plan : Plan
   plan = turn .before .before .before .args .plan
 
-  tested : c .amounts-ok .result ≡ paymentsHeld (plan .instrument) (plan .years) j
-  tested = c .amounts-ok .ensures
+  tested : c .amounts-ok .result ≡ paymentsTested (plan .instrument) (plan .years) j
+  tested = c .amounts-ok .ensures ∙ ap (upTo 20_000_000_000 (plan .years)) (c .before .before .payments .ensures)
 
 returns : tie.Need-returns Inv-loop μ-loop
 returns c =
     let d = c .before in
-    sym (all-fails _ _ (j d) (turn d .loop-test .taken) (sym (tested d) ∙ not-true _ (c .if1 .taken))) ∙ payments-ok (plan d)
+    sym (all-fails _ _ (j d) (turn d .loop-test .taken) (sym (tested d) ∙ not-true _ (c .if1 .taken))) ∙ payments-ok (plan d) (turn d .before .before .before .pre .years-few)
 
 add-j : tie.Need-add-j Inv-loop μ-loop
 add-j c = omega arith
@@ -62,7 +72,8 @@ loop-again c =
 returns-2 : tie.Need-returns-2 Inv-loop μ-loop
 returns-2 c =
     let i = c .before .loop .inv in
-    sym (all-end _ _ (i .0) (c .loop-test .left) (i .1)) ∙ payments-ok (c .before .before .before .args .plan)
+    let s = c .before .before .before in
+    sym (all-end _ _ (i .0) (c .loop-test .left) (i .1)) ∙ payments-ok (s .args .plan) (s .pre .years-few)
 
 pub payments-ok-spec : {M : Type 1} → statement M
 payments-ok-spec =
@@ -73,6 +84,8 @@ payments-ok-spec =
     loop-holds
     mul-row
     array-copy-out-row
+    payments-requires
+    slice-aggregate-amounts-ok
     amounts-ok-requires
     returns
     add-j

@@ -1,19 +1,23 @@
 -- `plan::rates_ok` is check 8: the rates of the patterns before t have passed.
-use mathlib.Core.Path.{_≡_, sym, _∙_}
+use mathlib.Core.Path.{_≡_, sym, ap, _∙_}
 use mathlib.Core.Bool.{true}
+use mathlib.Core.List.{List}
 use Prim.Native.Nat.{ℕ, _-_, _≤_}
 use native.Mathlib.Omega.{arith}
 use borrow.Author.Needs.{needs}
 use borrow.Author.Tests.{not-true, not-false}
+use lib.IntN.{ℤ}
+use lib.ListN.{length}
 use Rattle.whole.specs.Test.{all}
+use Rattle.whole.proofs.Table.{length-table}
 use Rattle.whole.proofs.Test.{all-none, all-more, all-fails, all-end}
 use Rattle.plan.specs.declared.Plan.{Plan}
-use Rattle.plan.proofs.Checks.{ratesHeld, rates-ok}
+use Rattle.plan.proofs.Checks.{upTo, ratesTested, rates-ok}
 use Rattle.plan.proofs.rates_ok.Statement.{statement}
 use Rattle.plan.proofs.rates_ok.Tie as tie
 
 abbrev Inv-loop : tie.InvT-loop
-Inv-loop m years pattern t₀ t = (t ≤ m) × (all t (ratesHeld pattern years) ≡ true)
+Inv-loop m years pattern t₀ t = (t ≤ m) × (all t (ratesTested pattern years) ≡ true)
 
 abbrev μ-loop : tie.MeasureT-loop
 μ-loop m years pattern t₀ t = m - t
@@ -27,15 +31,21 @@ mul-row c = omega arith
 array-copy-out-row : tie.Need-array-copy-out-row Inv-loop μ-loop
 array-copy-out-row c = omega arith
 
-sub-at-most : tie.Need-sub-at-most Inv-loop μ-loop
-sub-at-most c = omega arith
+rates-requires : tie.Need-rates-requires Inv-loop μ-loop
+rates-requires c κs = (omega arith, omega arith)
 
-at-most-requires : tie.Need-at-most-requires Inv-loop μ-loop
-at-most-requires c κs = omega arith
+slice-aggregate-amounts-ok : tie.Need-slice-aggregate-amounts-ok Inv-loop μ-loop
+slice-aggregate-amounts-ok c = search needs
 
-module _ (c : tie.After-at-most Inv-loop μ-loop) where
+sub-amounts-ok : tie.Need-sub-amounts-ok Inv-loop μ-loop
+sub-amounts-ok c = omega arith
+
+amounts-ok-requires : tie.Need-amounts-ok-requires Inv-loop μ-loop
+amounts-ok-requires c κs = let l = ap length (c .before .rates .ensures) ∙ length-table 30 _ _ _ (omega arith) in omega arith
+
+module _ (c : tie.After-amounts-ok Inv-loop μ-loop) where
   abbrev turn : tie.In-loop Inv-loop μ-loop
-  turn = c .before .before .before
+  turn = c .before .before .before .before
 
   abbrev t : ℕ
   t = turn .before .loop .t
@@ -43,13 +53,13 @@ module _ (c : tie.After-at-most Inv-loop μ-loop) where
   abbrev plan : Plan
   plan = turn .before .before .before .args .plan
 
-  tested : c .at-most .result ≡ ratesHeld (plan .pattern) (plan .years) t
-  tested = c .at-most .ensures
+  tested : c .amounts-ok .result ≡ ratesTested (plan .pattern) (plan .years) t
+  tested = c .amounts-ok .ensures ∙ ap (upTo 200_000 (plan .years - 1)) (c .before .before .rates .ensures)
 
 returns : tie.Need-returns Inv-loop μ-loop
 returns c =
     let d = c .before in
-    sym (all-fails _ _ (t d) (turn d .loop-test .taken) (sym (tested d) ∙ not-true _ (c .if1 .taken))) ∙ rates-ok (plan d)
+    sym (all-fails _ _ (t d) (turn d .loop-test .taken) (sym (tested d) ∙ not-true _ (c .if1 .taken))) ∙ rates-ok (plan d) (turn d .before .before .before .pre .years-few)
 
 add-t : tie.Need-add-t Inv-loop μ-loop
 add-t c = omega arith
@@ -65,7 +75,8 @@ loop-again c =
 returns-2 : tie.Need-returns-2 Inv-loop μ-loop
 returns-2 c =
     let i = c .before .loop .inv in
-    sym (all-end _ _ (i .0) (c .loop-test .left) (i .1)) ∙ rates-ok (c .before .before .before .args .plan)
+    let s = c .before .before .before in
+    sym (all-end _ _ (i .0) (c .loop-test .left) (i .1)) ∙ rates-ok (s .args .plan) (s .pre .years-few)
 
 pub rates-ok-spec : {M : Type 1} → statement M
 rates-ok-spec =
@@ -76,8 +87,10 @@ rates-ok-spec =
     loop-holds
     mul-row
     array-copy-out-row
-    sub-at-most
-    at-most-requires
+    rates-requires
+    slice-aggregate-amounts-ok
+    sub-amounts-ok
+    amounts-ok-requires
     returns
     add-t
     loop-less

@@ -1,10 +1,10 @@
 -- `planfile::size_of` takes the size from the list of sizes by the kind, which counts from 1.
 use mathlib.Core.Path.{sym}
-use native.Mathlib.Omega.{arith}
 use borrow.Author.Needs.{needs}
 use Rattle.whole.specs.Entry.{nth}
 use Rattle.whole.proofs.Entry.{nth-outside}
-use Rattle.planfile.specs.Format.{sizeOf}
+use Rattle.planfile.specs.Kinds.{sizeOf}
+use Rattle.planfile.proofs.Kind.{past}
 use Rattle.planfile.proofs.size_of.Statement.{statement}
 use Rattle.planfile.proofs.size_of.Tie as tie
 
@@ -32,7 +32,7 @@ returns c = rw (c .match .keys1)
 
 returns-2 : tie.Need-returns-2
 unfolding sizeOf nth
-returns-2 c = rw (c .before .match .keys2)
+returns-2 c = rw (c .match .keys2)
 
 returns-3 : tie.Need-returns-3
 unfolding sizeOf nth
@@ -51,10 +51,12 @@ unfolding sizeOf nth
 returns-6 c = rw (c .before .match .keys6)
 
 returns-7 : tie.Need-returns-7
+unfolding sizeOf nth
+returns-7 c = rw (c .before .match .keys7)
+
+returns-8 : tie.Need-returns-8
 unfolding sizeOf
-returns-7 c =
-    let r = c .match .rest in
-    sym (nth-outside 0 _ _ (λ l. omega (arith, r .0 .0 .0 .0 .0 .1, r .0 .0 .0 .0 .1, r .0 .0 .0 .1, r .0 .0 .1, r .0 .1, r .1)))
+returns-8 c = sym (nth-outside 0 _ _ (λ l. past 7 (c .match .rest)))
 
 pub size-of-spec : {M : Type 1} → statement M
 size-of-spec =
@@ -72,4 +74,5 @@ size-of-spec =
     returns-4
     returns-5
     returns-6
-    returns-7)
+    returns-7
+    returns-8)

@@ -8,10 +8,9 @@ use mir.Val.{SFits}
 use Rattle.whole.proofs.Range.{back, ok64}
 use Rattle.reckoning.specs.Bound.{h, B}
 use Rattle.plan.specs.Numbers.{numbers}
-use Rattle.planner.specs.Calls.{noBound, callRefusal, boundOf, boundAnswer}
-use Rattle.planner.proofs.Held.{years}
+use Rattle.planner.specs.Calls.{noBound, boundAt, callRefusal, boundOf, boundAnswer}
+use Rattle.planner.proofs.Held.{years, rates-ready, rates-are}
 use Rattle.planner.proofs.Answers.{Called, called, out-refused, out-accepted}
-use Rattle.planner.proofs.Prepared.{pattern-rates, pattern-held}
 use Rattle.planner.proofs.bound.Statement.{statement}
 use Rattle.planner.proofs.bound.Tie as tie
 
@@ -34,15 +33,15 @@ rates-of-requires : tie.Need-rates-of-requires
 rates-of-requires c κs = (ok c .plan-ok, (ok c .some, ok c .few))
 
 bound-requires : tie.Need-bound-requires
-bound-requires c κs = let o = ok (c .before .before) in (pattern-rates _ _ o (c .before .rates-of .ensures), years _ (o .plan-ok))
+bound-requires c κs = let o = ok (c .before .before) .plan-ok in (rates-ready _ o _ (c .before .rates-of .ensures), years _ o)
 
 returns-2 : tie.Need-returns-2
-unfolding boundAnswer boundOf
+unfolding boundAnswer boundOf boundAt
 returns-2 c =
     let f : SFits w64 (c .bound .result) = ok64 (c .bound .result) (c .bound .ok) in
     let e = c .before .before .before in
     let N = e .before .before .args .plan .years in
-    let is = c .bound .ensures .0 ∙ ap (λ (i : ℕ → ℤ). pos (B (h i N) N)) (pattern-held _ _ (ok e) (c .before .before .rates-of .ensures)) in
+    let is = c .bound .ensures .0 ∙ ap (λ (i : ℕ → ℤ). pos (B (h i N) N)) (rates-are _ (ok e .plan-ok) _ (c .before .before .rates-of .ensures)) in
     simp back (out-accepted noBound (none e) (ap (λ (b : ℤ). record { refusal = 0; bound = b }) is))
 
 pub bound-spec : {M : Type 1} → statement M

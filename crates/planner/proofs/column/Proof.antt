@@ -1,4 +1,4 @@
--- `planner::column` takes entry k of each row (ArrayLoops, `Filling`).
+-- `planner::column` takes entry k of each row.
 use mathlib.Core.Path.{refl}
 use mathlib.Core.List.{[]}
 use Prim.Native.Nat.{_-_, _<_}
@@ -7,7 +7,7 @@ use lib.ListN.{getD}
 use lib.IntN.{pos}
 use Rattle.whole.proofs.Range.{back, ok64}
 use Rattle.planner.specs.Arrays.{columnOf}
-use Rattle.planner.proofs.ArrayLoops.{Filling, fill-start, fill-turn, fill-end}
+use Rattle.whole.proofs.Filling.{Filling, fill-start, fill-turn, fill-end}
 use Rattle.planner.proofs.column.Statement.{statement}
 use Rattle.planner.proofs.column.Tie as tie
 

@@ -1,12 +1,12 @@
 -- `planner::fund` reckons the allocation's flow in the pattern's rates.
-use mathlib.Core.Path.{_≡_, sym, _∙_}
+use mathlib.Core.Path.{_≡_, sym, ap₂, _∙_}
 use borrow.Author.Needs.{needs}
 use Rattle.plan.specs.Numbers.{numbers}
-use Rattle.planner.specs.Calls.{noFund, callRefusal, fundAnswer}
-use Rattle.planner.proofs.Held.{years, terms, flow-amounts, ready}
+use Rattle.planner.specs.Calls.{noFund, flowReckoned, callRefusal, fundAnswer}
+use Rattle.planner.specs.Arrays.{Prepared}
+use Rattle.planner.proofs.Held.{rates-ready, rates-are, prepared-is, shared-is, ready, flow-amounts, flow-reckoned}
 use Rattle.planner.proofs.Answers.{Called, called, out-refused, out-accepted}
 use Rattle.planner.proofs.Demand3.{fund-answered}
-use Rattle.planner.proofs.Prepared.{pattern-rates, fund-is}
 use Rattle.planner.proofs.fund.Statement.{statement}
 use Rattle.planner.proofs.fund.Tie as tie
 
@@ -25,45 +25,46 @@ module _ (c : tie.Else1) where
   ok : Called (c .before .before .args .plan) (c .before .before .args .t)
   ok = called _ _ none
 
-rollover-of-requires : tie.Need-rollover-of-requires
-rollover-of-requires c κs = ok c .plan-ok
-
-weights-requires : tie.Need-weights-requires
-weights-requires c κs = rw (c .rollover-of .ensures) (terms _ (ok (c .before) .plan-ok))
-
-rates-of-requires : tie.Need-rates-of-requires
-rates-of-requires c κs = let o = ok (c .before .before) in (o .plan-ok, (o .some, o .few))
+common-of-requires : tie.Need-common-of-requires
+common-of-requires c κs = ok c .plan-ok
 
 payments-of-requires : tie.Need-payments-of-requires
-payments-of-requires c κs = ok (c .before .before .before) .plan-ok
+payments-of-requires c κs = ok (c .before) .plan-ok
+
+-- what is prepared
+prepared : (c : tie.After-payments) → Prepared (c .before .before .common-of .result) (c .before .payments-of .result)
+prepared c = let g = c .before .before in prepared-is _ (ok (g .before) .plan-ok) (g .common-of .ensures) (c .before .payments-of .ensures)
 
 flow-of-requires : tie.Need-flow-of-requires
-flow-of-requires c κs = (ok (c .before .before .before .before .before) .plan-ok, c .before .payments-of .ensures)
+flow-of-requires c κs = prepared c
 
--- the arrays, prepared
+rates-of-requires : tie.Need-rates-of-requires
+rates-of-requires c κs = let o = ok (c .before .before .before .before) in (o .plan-ok, (o .some, o .few))
+
 module _ (c : tie.After-i) where
-  abbrev flowed : tie.After-flow-of
-  flowed = c .before .before .before .before
-
   abbrev rated : tie.After-rates-of
-  rated = flowed .before .before .before
+  rated = c .before .before
 
-  abbrev rolled : tie.After-rollover-of
-  rolled = rated .before .before
+  abbrev lent : tie.After-payments
+  lent = rated .before .before
 
-fund-requires : tie.Need-fund-requires
-fund-requires c κs =
-    let o = ok (rolled c .before) in
-    let i = pattern-rates _ _ o (rated c .rates-of .ensures) in
-    (ready _ (o .plan-ok) (rolled c .rollover-of .ensures) (rated c .before .weights .ensures) i, (rw (flowed c .flow-of .ensures) (flow-amounts _ (o .plan-ok)), years _ (o .plan-ok)))
+  abbrev gathered : tie.After-common-of
+  gathered = lent .before .before
+
+fund-at-requires : tie.Need-fund-at-requires
+fund-at-requires c κs =
+    let p = prepared (lent c) in
+    let o = ok (gathered c .before) in
+    (ready p (rates-ready _ (o .plan-ok) _ (rated c .rates-of .ensures)), (flow-amounts p (rated c .before .flow-of .ensures), p .years))
 
 returns-2 : tie.Need-returns-2
 unfolding fundAnswer
 returns-2 c =
     let p = c .before in
-    let e = rolled p .before in
+    let e = gathered p .before in
     fund-answered _ _ (out-accepted noFund (none e)
-    (c .fund .ensures .0 ∙ fund-is _ _ (ok e) (rated p .rates-of .ensures) (rolled p .rollover-of .ensures) (flowed p .flow-of .ensures)))
+    (c .fund-at .ensures .0 ∙ flow-reckoned (prepared (lent p)) (rated p .before .flow-of .ensures) _
+    ∙ ap₂ flowReckoned (shared-is _ (ok e .plan-ok) (gathered p .common-of .ensures) (lent p .before .payments-of .ensures)) (rates-are _ (ok e .plan-ok) _ (rated p .rates-of .ensures))))
 
 pub fund-spec : {M : Type 1} → statement M
 fund-spec =
@@ -71,10 +72,9 @@ fund-spec =
     (tie.spec
     call-refusal-requires
     returns
-    rollover-of-requires
-    weights-requires
-    rates-of-requires
+    common-of-requires
     payments-of-requires
     flow-of-requires
-    fund-requires
+    rates-of-requires
+    fund-at-requires
     returns-2)

@@ -1,11 +1,13 @@
 -- `planner::gammas` is the table of gammas in the pattern's rates.
-use mathlib.Core.Path.{_≡_, sym, _∙_}
+use mathlib.Core.Path.{_≡_, refl, sym, ap₂, _∙_}
+use Prim.Native.Nat.{ℕ}
 use borrow.Author.Needs.{needs}
+use lib.IntN.{ℤ}
+use Rattle.reckoning.specs.Arrays.{gammasReckoned}
 use Rattle.plan.specs.Numbers.{numbers}
-use Rattle.planner.specs.Calls.{noGammas, callRefusal, gammasAnswer}
-use Rattle.planner.proofs.Held.{years, terms, ready}
+use Rattle.planner.specs.Calls.{noGammas, Shared, callRefusal, gammasAnswer}
+use Rattle.planner.proofs.Held.{rates-ready, rates-are, prepared-is, shared-is, ready}
 use Rattle.planner.proofs.Answers.{Called, called, out-refused, out-accepted}
-use Rattle.planner.proofs.Prepared.{pattern-rates, gammas-is}
 use Rattle.planner.proofs.gammas.Statement.{statement}
 use Rattle.planner.proofs.gammas.Tie as tie
 
@@ -24,25 +26,32 @@ module _ (c : tie.Else1) where
   ok : Called (c .before .before .args .plan) (c .before .before .args .t)
   ok = called _ _ none
 
-rollover-of-requires : tie.Need-rollover-of-requires
-rollover-of-requires c κs = ok c .plan-ok
-
-weights-requires : tie.Need-weights-requires
-weights-requires c κs = rw (c .rollover-of .ensures) (terms _ (ok (c .before) .plan-ok))
+common-of-requires : tie.Need-common-of-requires
+common-of-requires c κs = ok c .plan-ok
 
 rates-of-requires : tie.Need-rates-of-requires
-rates-of-requires c κs = let o = ok (c .before .before) in (o .plan-ok, (o .some, o .few))
+rates-of-requires c κs = let o = ok (c .before .before .before) in (o .plan-ok, (o .some, o .few))
+
+-- what is prepared
+module _ (c : tie.After-rates-of) where
+  abbrev gathered : tie.After-common-of
+  gathered = c .before .before .before
 
 gammas-requires : tie.Need-gammas-requires
 gammas-requires c κs =
-    let o = ok (c .before .before .before) in
-    (ready _ (o .plan-ok) (c .before .before .rollover-of .ensures) (c .before .weights .ensures) (pattern-rates _ _ o (c .rates-of .ensures)), years _ (o .plan-ok))
+    let g = gathered c in
+    let o = ok (g .before) .plan-ok in
+    let p = prepared-is _ o (g .common-of .ensures) refl in
+    (ready p (rates-ready _ o _ (c .rates-of .ensures)), p .years)
 
 returns-2 : tie.Need-returns-2
 unfolding gammasAnswer
 returns-2 c =
-    let e = c .before .before .before .before in
-    out-accepted noGammas (none e) (c .gammas .ensures ∙ gammas-is _ _ (ok e) (c .before .rates-of .ensures) (c .before .before .before .rollover-of .ensures))
+    let r = c .before in
+    let g = gathered r in
+    let o = ok (g .before) .plan-ok in
+    out-accepted noGammas (none (g .before))
+    (c .gammas .ensures ∙ ap₂ (λ (S : Shared) (i : ℕ → ℤ). gammasReckoned (S .r) i (S .years)) (shared-is _ o (g .common-of .ensures) refl) (rates-are _ o _ (r .rates-of .ensures)))
 
 pub gammas-spec : {M : Type 1} → statement M
 gammas-spec =
@@ -50,8 +59,7 @@ gammas-spec =
     (tie.spec
     call-refusal-requires
     returns
-    rollover-of-requires
-    weights-requires
+    common-of-requires
     rates-of-requires
     gammas-requires
     returns-2)

@@ -1,45 +1,63 @@
 -- `planner::judged` fills in the row of one pattern after the other, until check 11 refuses one (RowLaws, `Rowed`), and has the
 -- verdict that their words make.
-use mathlib.Core.Path.{_≡_, ap, _∙_}
+use mathlib.Core.Path.{_≡_, ap, ap₂, _∙_}
+use mathlib.Core.List.{List, []}
 use Prim.Native.Nat.{ℕ, _+_, _-_, _<_}
 use native.Mathlib.Omega.{arith}
 use borrow.Author.Needs.{needs}
-use Rattle.plan.specs.Numbers.{numbers}
+use lib.ListN.{getD}
+use lib.IntN.{ℤ}
+use Rattle.reckoning.specs.Arrays.{ratesOf}
+use Rattle.plan.specs.Held.{patternHeld}
+use Rattle.plan.specs.Numbers.{Numbers, ratesMeant, numbers}
+use Rattle.plan.specs.declared.Pattern.{Pattern}
+use Rattle.planner.specs.Calls.{sharedOf}
+use Rattle.planner.specs.Arrays.{sharedIn}
+use Rattle.planner.specs.Rows.{rowReckoned}
 use Rattle.planner.specs.declared.OneRow.{OneRow}
-use Rattle.planner.proofs.Held.{years, rates-array}
-use Rattle.planner.proofs.Answers.{Called}
-use Rattle.planner.proofs.Prepared.{pattern-rates, common-ready, common-flows, common-row}
-use Rattle.planner.proofs.RowLaws.{rowReckoned, rowBy, ratesIn, Rowed, rows-start, rows-turn, rows-refuse, rows-fit, words-are, rows-are}
+use Rattle.planner.proofs.Held.{rates-array, rates-ready, rates-are, prepared-is, shared-is}
+use Rattle.planner.proofs.RowLaws.{Rowed, rows-start, rows-turn, rows-refuse, rows-fit, words-are, rows-are}
 use Rattle.planner.proofs.VerdictLaws.{pattern-refuses, judge-refused, judge-made}
 use Rattle.planner.proofs.judged.Statement.{statement}
 use Rattle.planner.proofs.judged.Tie as tie
 
+-- the rates of the pattern at t, as they are meant
+abbrev ratesAt : (years : ℕ) (patterns : List Pattern) (t : ℕ) → List ℤ
+ratesAt years patterns t = ratesMeant years (patternHeld years (getD patterns t (record { rates = [] })))
+
 abbrev Inv-loop : tie.InvT-loop
-Inv-loop payments m n years q pattern flow outflow r w words₀ rows₀ t₀ words rows t = Rowed m (λ t. rowBy r flow outflow payments years n (ratesIn years pattern t)) words rows t
+Inv-loop common payments m years pattern flow words₀ rows₀ t₀ words rows t = Rowed m (λ t. rowReckoned (sharedIn common payments) (ratesOf (ratesAt years pattern t))) words rows t
 
 abbrev μ-loop : tie.MeasureT-loop
-μ-loop payments m n years q pattern flow outflow r w words₀ rows₀ t₀ words rows t = m - t
+μ-loop common payments m years pattern flow words₀ rows₀ t₀ words rows t = m - t
 
 -- what each pattern comes to
 module _ (s : tie.Start Inv-loop μ-loop) where
+  abbrev P : Numbers
+  P = numbers (s .args .plan)
+
   abbrev each : (t : ℕ) → OneRow
-  each t =
-      rowBy (s .args .common .rollover) (s .args .common .flow) (s .args .common .outflow) (s .args .payments .now) (s .args .plan .years) (s .args .plan .instruments)
-      (ratesIn (s .args .plan .years) (s .args .plan .pattern) t)
+  each t = rowReckoned (sharedIn (s .args .common) (s .args .payments .now)) (ratesOf (ratesAt (s .args .plan .years) (s .args .plan .pattern) t))
 
-  each-is : (t : ℕ) → t < s .args .plan .patterns → each t ≡ rowReckoned (numbers (s .args .plan)) (1 + t)
-  each-is = common-row (s .args .plan) (s .pre .0) (s .pre .1 .0) (s .pre .1 .1)
+  each-is : (t : ℕ) → t < s .args .plan .patterns → each t ≡ rowReckoned (sharedOf P) (P .i (1 + t))
+  each-is t h = let p = s .pre in ap₂ rowReckoned (shared-is _ (p .0) (p .1 .0) (p .1 .1)) (rates-are _ (p .0) (1 + t) (rates-array _ t h))
 
-no-pattern-requires : tie.Need-no-pattern-requires Inv-loop μ-loop
-no-pattern-requires c κs = search needs
+flow-of-requires : tie.Need-flow-of-requires Inv-loop μ-loop
+flow-of-requires c κs = let p = c .before .pre in prepared-is _ (p .0) (p .1 .0) (p .1 .1)
+
+no-pattern-row-requires : tie.Need-no-pattern-row-requires Inv-loop μ-loop
+no-pattern-row-requires c κs = search needs
 
 loop-holds : tie.Need-loop-holds Inv-loop μ-loop
-loop-holds c = rw (c .no-pattern .ensures) rows-start
+loop-holds c = rw (c .no-pattern-row .ensures) rows-start
 
 -- in the loop: the pattern at t
 module _ (c : tie.In-loop Inv-loop μ-loop) where
+  abbrev flowed : tie.After-flow-of Inv-loop μ-loop
+  flowed = c .before .before .before
+
   abbrev start : tie.Start Inv-loop μ-loop
-  start = c .before .before .before .before .before .before .before .before
+  start = flowed .before .before
 
   abbrev t : ℕ
   t = c .before .loop .t
@@ -47,41 +65,34 @@ module _ (c : tie.In-loop Inv-loop μ-loop) where
   t-few : t < 64
   t-few = omega (arith, start .pre .0 .head .patterns-few)
 
-  ok : Called (start .args .plan) (1 + t)
-  ok = record { plan-ok = start .pre .0; some = omega arith; few = omega arith }
-
 mul-one : tie.Need-mul-one Inv-loop μ-loop
 mul-one c = omega (arith, t-few c)
 
 array-copy-out-one : tie.Need-array-copy-out-one Inv-loop μ-loop
 array-copy-out-one c = t-few c
 
-sub-widened : tie.Need-sub-widened Inv-loop μ-loop
-sub-widened c = omega (arith, start (c .before .before) .pre .0 .head .years-some)
-
-widened-requires : tie.Need-widened-requires Inv-loop μ-loop
-widened-requires c κs = omega (arith, start (c .before .before) .pre .0 .head .years-few)
+rates-requires : tie.Need-rates-requires Inv-loop μ-loop
+rates-requires c κs = let h = start (c .before) .pre .0 .head in (h .years-some, h .years-few)
 
 row-at-requires : tie.Need-row-at-requires Inv-loop μ-loop
 row-at-requires c κs =
-    let r = c .before .before .before .before .before in
-    let turn = r .before .before .before in
-    let s = start turn .pre in
-    let rates-are = r .widened .ensures ∙ rates-array _ (s .0) (t turn) (turn .loop-test .taken) in
-    (common-ready _ (s .0) (s .1 .0) (s .1 .1) (pattern-rates _ _ (ok turn) rates-are), (common-flows _ (s .0) (s .1 .0) (s .1 .1), years _ (s .0)))
+    let r = c .before .before in
+    let turn = r .before .before in
+    let p = start turn .pre in
+    (prepared-is _ (p .0) (p .1 .0) (p .1 .1), (flowed turn .flow-of .ensures, rates-ready _ (p .0) (1 + t turn) (r .rates .ensures ∙ rates-array _ (t turn) (turn .loop-test .taken))))
 
 -- its row
 module _ (c : tie.After-row-at Inv-loop μ-loop) where
-  abbrev rated : tie.After-widened Inv-loop μ-loop
-  rated = c .before .before .before .before .before .before
+  abbrev rated : tie.After-rates Inv-loop μ-loop
+  rated = c .before .before .before
 
   abbrev turn : tie.In-loop Inv-loop μ-loop
-  turn = rated .before .before .before
+  turn = rated .before .before
 
   row-is : c .row-at .result ≡ each (start turn) (t turn)
   row-is =
       let s = start turn .args in
-      c .row-at .ensures ∙ ap (rowBy (s .common .rollover) (s .common .flow) (s .common .outflow) (s .payments .now) (s .plan .years) (s .plan .instruments)) (rated .widened .ensures)
+      c .row-at .ensures ∙ ap (λ (i : List ℤ). rowReckoned (sharedIn (s .common) (s .payments .now)) (ratesOf i)) (rated .rates .ensures)
 
 no-judgement-requires : tie.Need-no-judgement-requires Inv-loop μ-loop
 no-judgement-requires c κs = search needs
@@ -91,7 +102,7 @@ returns c =
     let r = c .before .before in
     let s = start (turn r) in
     c .no-judgement .ensures
-    ∙ judge-refused _ (pattern-refuses _ (s .pre .0) (rows-refuse _ (each-is s) (turn r .loop-test .taken) (row-is r) (c .before .if1 .taken))) (λ z. omega arith)
+    ∙ judge-refused _ (pattern-refuses _ (s .pre .0) (rows-refuse (P s) (each-is s) (turn r .loop-test .taken) (row-is r) (c .before .if1 .taken))) (λ z. omega arith)
 
 array-write-words : tie.Need-array-write-words Inv-loop μ-loop
 array-write-words c = t-few (turn (c .before .before))
@@ -114,15 +125,15 @@ loop-again c =
     rows-turn (start t .pre .0 .head .patterns-few) (t .loop-test .taken) (t .before .loop .inv) (row-is (c .before .before)) (c .before .if1 .left)
 
 verdict-of-requires : tie.Need-verdict-of-requires Inv-loop μ-loop
-verdict-of-requires c κs = c .before .before .before .before .before .before .before .before .pre .0 .head .patterns-few
+verdict-of-requires c κs = c .before .before .before .before .before .pre .0 .head .patterns-few
 
 returns-2 : tie.Need-returns-2 Inv-loop μ-loop
 returns-2 c =
     let e = c .before in
-    let s = e .before .before .before .before .before .before .before .before in
+    let s = e .before .before .before .before .before in
     let left = e .loop-test .left in
     let inv = e .before .loop .inv in
-    judge-made _ (s .pre .0) (rows-fit _ (each-is s) left inv) (words-are _ (each-is s) left inv) (rows-are _ (each-is s) left inv) (c .verdict-of .ensures)
+    judge-made _ (s .pre .0) (rows-fit (P s) (each-is s) left inv) (words-are (P s) (each-is s) left inv) (rows-are (P s) (each-is s) left inv) (c .verdict-of .ensures)
 
 pub judged-spec : {M : Type 1} → statement M
 judged-spec =
@@ -130,12 +141,12 @@ judged-spec =
     (tie.spec
     Inv-loop
     μ-loop
-    no-pattern-requires
+    flow-of-requires
+    no-pattern-row-requires
     loop-holds
     mul-one
     array-copy-out-one
-    sub-widened
-    widened-requires
+    rates-requires
     row-at-requires
     no-judgement-requires
     returns

@@ -3,11 +3,11 @@ use borrow.Author.Needs.{needs}
 use Rattle.planner.proofs.no_judgement.Statement.{statement}
 use Rattle.planner.proofs.no_judgement.Tie as tie
 
-no-pattern-requires : tie.Need-no-pattern-requires
-no-pattern-requires c κs = search needs
+no-pattern-row-requires : tie.Need-no-pattern-row-requires
+no-pattern-row-requires c κs = search needs
 
 returns : tie.Need-returns
-returns c = rw (c .no-pattern .ensures)
+returns c = rw (c .no-pattern-row .ensures)
 
 pub no-judgement-spec : {M : Type 1} → statement M
-no-judgement-spec = tie.close (tie.spec no-pattern-requires returns)
+no-judgement-spec = tie.close (tie.spec no-pattern-row-requires returns)

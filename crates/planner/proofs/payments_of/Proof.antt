@@ -1,20 +1,21 @@
--- `planner::payments_of` fills in a row for each instrument (ArrayLoops, `Filling`).
-use mathlib.Core.Path.{sym}
+-- `planner::payments_of` fills in what each instrument means.
+use mathlib.Core.Path.{sym, ap}
 use mathlib.Core.List.{[]}
 use Prim.Native.Nat.{_-_}
 use native.Mathlib.Omega.{arith}
 use lib.ListN.{getD, replicate}
 use lib.IntN.{pos}
-use Rattle.whole.specs.Table.{table}
-use Rattle.whole.proofs.Table.{table-cong}
-use Rattle.plan.proofs.Numbers.{payment-is}
+use Rattle.whole.proofs.Filling.{Filling, fill-start, fill-turn, fill-as}
+use Rattle.plan.specs.Held.{instrumentHeld}
+use Rattle.plan.specs.Numbers.{paymentsMeant}
+use Rattle.plan.proofs.Held.{instrument-is}
 use Rattle.planner.specs.Arrays.{paymentsRow, paymentsRows}
-use Rattle.planner.proofs.ArrayLoops.{Filling, fill-start, fill-turn, fill-as}
 use Rattle.planner.proofs.payments_of.Statement.{statement}
 use Rattle.planner.proofs.payments_of.Tie as tie
 
 abbrev Inv-loop : tie.InvT-loop
-Inv-loop n years instrument rows₀ j₀ rows j = Filling 16 n (λ j. table 30 years (λ k. getD (getD instrument j (record { payments = [] }) .payments) k (pos 0)) (pos 0)) (replicate 30 (pos 0)) rows j
+Inv-loop n years instrument rows₀ j₀ rows j =
+    Filling 16 n (λ j. paymentsMeant years (instrumentHeld years (getD instrument j (record { payments = [] })))) (replicate 30 (pos 0)) rows j
 
 abbrev μ-loop : tie.MeasureT-loop
 μ-loop n years instrument rows₀ j₀ rows j = n - j
@@ -28,8 +29,8 @@ mul-one c = omega arith
 array-copy-out-one : tie.Need-array-copy-out-one Inv-loop μ-loop
 array-copy-out-one c = omega arith
 
-cut-requires : tie.Need-cut-requires Inv-loop μ-loop
-cut-requires c κs = omega arith
+payments-requires : tie.Need-payments-requires Inv-loop μ-loop
+payments-requires c κs = omega arith
 
 mul-rows : tie.Need-mul-rows Inv-loop μ-loop
 mul-rows c = omega arith
@@ -45,14 +46,14 @@ loop-less c = omega arith
 
 loop-again : tie.Need-loop-again Inv-loop μ-loop
 loop-again c =
-    let turn = c .before .before .before in
-    fill-turn (turn .before .before .before .pre .head .instruments-few) (turn .loop-test .taken) (turn .before .loop .inv) (c .cut .ensures)
+    let turn = c .before .before in
+    fill-turn (turn .before .before .before .pre .head .instruments-few) (turn .loop-test .taken) (turn .before .loop .inv) (c .payments .ensures)
 
 returns : tie.Need-returns Inv-loop μ-loop
 unfolding paymentsRows paymentsRow
 returns c =
     let plan = c .before .before .before .args .plan in
-    fill-as (c .loop-test .left) (c .before .loop .inv) (λ j h. table-cong 30 (plan .years) _ _ (pos 0) (λ k l. sym (payment-is plan j k h l)))
+    fill-as (c .loop-test .left) (c .before .loop .inv) (λ j h. ap (paymentsMeant (plan .years)) (sym (instrument-is plan j h)))
 
 pub payments-of-spec : {M : Type 1} → statement M
 payments-of-spec =
@@ -63,7 +64,7 @@ payments-of-spec =
     loop-holds
     mul-one
     array-copy-out-one
-    cut-requires
+    payments-requires
     mul-rows
     array-set-from-rows
     add-j

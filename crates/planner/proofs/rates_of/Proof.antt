@@ -1,4 +1,4 @@
--- `planner::rates_of` takes the first N - 1 rates of the pattern, which are i_2 to i_N.
+-- `planner::rates_of` takes the rates that the pattern means.
 use mathlib.Core.Path.{_≡_, ap, _∙_}
 use Prim.Native.Nat.{_+_, _-_}
 use native.Mathlib.Omega.{arith}
@@ -17,19 +17,16 @@ mul-row c = search needs
 array-copy-out-row : tie.Need-array-copy-out-row
 array-copy-out-row c = search needs
 
-sub-widened : tie.Need-sub-widened
-sub-widened c = search needs
-
-widened-requires : tie.Need-widened-requires
-widened-requires c κs = search needs
+rates-requires : tie.Need-rates-requires
+rates-requires c κs = search needs
 
 returns : tie.Need-returns
 returns c =
-    let s = c .before .before .before .before in
+    let s = c .before .before .before in
     let t = s .args .t in
     let e : 1 + (t - 1) ≡ t = omega arith in
-    c .widened .ensures ∙ rates-array (s .args .plan) (s .pre .0) (t - 1) (omega arith) ∙ ap (ratesArray _) e
+    c .rates .ensures ∙ rates-array (s .args .plan) (t - 1) (omega arith) ∙ ap (ratesArray _) e
 
 pub rates-of-spec : {M : Type 1} → statement M
 rates-of-spec =
-    tie.close (tie.spec sub-at mul-row array-copy-out-row sub-widened widened-requires returns)
+    tie.close (tie.spec sub-at mul-row array-copy-out-row rates-requires returns)

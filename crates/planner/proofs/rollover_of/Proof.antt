@@ -1,21 +1,71 @@
--- `planner::rollover_of` takes the first q shares, which are r_1 to r_q.
-use mathlib.Core.Path.{sym, ap, _∙_}
+-- `planner::rollover_of` fills in the first q shares, which are r_1 to r_q.
+use mathlib.Core.Path.{sym, ap}
+use Prim.Native.Nat.{_-_}
+use native.Mathlib.Omega.{arith}
 use borrow.Author.Needs.{needs}
+use lib.ListN.{getD}
 use lib.IntN.{pos}
-use Rattle.whole.proofs.Table.{table-cong}
-use Rattle.plan.proofs.Numbers.{rollover-is}
+use Rattle.whole.proofs.Filling.{Filling, fill-start, fill-turn, fill-as}
+use Rattle.whole.proofs.Range.{back, ok64}
+use Rattle.plan.proofs.Held.{rollover-is}
 use Rattle.planner.specs.Arrays.{rolloverArray}
 use Rattle.planner.proofs.rollover_of.Statement.{statement}
 use Rattle.planner.proofs.rollover_of.Tie as tie
 
-widened-requires : tie.Need-widened-requires
-widened-requires c κs = search needs
+abbrev Inv-loop : tie.InvT-loop
+Inv-loop xs q v₀ d₀ v d = Filling 30 q (λ d. pos (getD xs d 0)) (pos 0) v d
 
-returns : tie.Need-returns
+abbrev μ-loop : tie.MeasureT-loop
+μ-loop xs q v₀ d₀ v d = q - d
+
+loop-holds : tie.Need-loop-holds Inv-loop μ-loop
+loop-holds c = fill-start
+
+mul-wide : tie.Need-mul-wide Inv-loop μ-loop
+mul-wide c = omega arith
+
+array-read-wide : tie.Need-array-read-wide Inv-loop μ-loop
+array-read-wide c = omega arith
+
+wide-requires : tie.Need-wide-requires Inv-loop μ-loop
+wide-requires c κs = search needs
+
+mul-v : tie.Need-mul-v Inv-loop μ-loop
+mul-v c = omega arith
+
+array-set-from-v : tie.Need-array-set-from-v Inv-loop μ-loop
+array-set-from-v c = omega arith
+
+add-d : tie.Need-add-d Inv-loop μ-loop
+add-d c = omega arith
+
+loop-less : tie.Need-loop-less Inv-loop μ-loop
+loop-less c = omega arith
+
+loop-again : tie.Need-loop-again Inv-loop μ-loop
+loop-again c =
+    simp (back, ok64 (c .wide .result) (c .wide .ok))
+    (fill-turn (c .before .before .before .before .pre .head .terms-few) (c .before .loop-test .taken) (c .before .before .loop .inv) (c .wide .ensures))
+
+returns : tie.Need-returns Inv-loop μ-loop
 unfolding rolloverArray
 returns c =
-    let plan = c .before .before .args .plan in
-    c .widened .ensures ∙ table-cong 30 (plan .terms) _ _ (pos 0) (λ d l. ap pos (sym (rollover-is plan d l)))
+    let plan = c .before .before .before .args .plan in
+    fill-as (c .loop-test .left) (c .before .loop .inv) (λ d l. ap pos (sym (rollover-is plan d l)))
 
 pub rollover-of-spec : {M : Type 1} → statement M
-rollover-of-spec = tie.close (tie.spec widened-requires returns)
+rollover-of-spec =
+    tie.close
+    (tie.spec
+    Inv-loop
+    μ-loop
+    loop-holds
+    mul-wide
+    array-read-wide
+    wide-requires
+    mul-v
+    array-set-from-v
+    add-d
+    loop-less
+    loop-again
+    returns)

@@ -1,5 +1,4 @@
 -- `planner::weighted` adds each amount times its part (Weighing).
-use mathlib.Core.Path.{refl}
 use Prim.Native.Nat.{ℕ, _-_, _<_}
 use native.Mathlib.Omega.{arith}
 use borrow.Author.Needs.{needs}
@@ -8,12 +7,12 @@ use lib.IntN.{pos, _+ℤ_, _*ℤ_}
 use mir.Syntax.{w64}
 use mir.Val.{SFits, toZ}
 use Rattle.whole.proofs.Range.{within-fits, back, ok64}
-use Rattle.planner.proofs.Weighing.{weighable-parts, Weighing, weigh-start, product-fits, weigh-turn, sum-fits, weigh-end}
+use Rattle.planner.proofs.Weighing.{Weighing, weigh-start, product-fits, weigh-turn, sum-fits, weigh-end}
 use Rattle.planner.proofs.weighted.Statement.{statement}
 use Rattle.planner.proofs.weighted.Tie as tie
 
 abbrev Inv-loop : tie.InvT-loop
-Inv-loop n x p s₀ j₀ s j = Weighing n (λ j. getD x j (pos 0)) (λ j. getD p j 0) (toZ w64 s) j
+Inv-loop n x p s₀ j₀ s j = Weighing n x p (toZ w64 s) j
 
 abbrev μ-loop : tie.MeasureT-loop
 μ-loop n x p s₀ j₀ s j = n - j
@@ -54,10 +53,10 @@ module _ (c : tie.After-s Inv-loop μ-loop) where
   x-fits = within-fits (omega arith) (start .pre .amount j (c .before .before .loop-test .taken))
 
   z-fits : SFits w64 (getD (start .args .t1) j (pos 0) *ℤ c .before .wide .result)
-  z-fits = product-fits (weighable-parts (start .pre)) (c .before .before .loop-test .taken) refl (c .before .wide .ensures)
+  z-fits = product-fits (start .pre) (c .before .before .loop-test .taken) (c .before .wide .ensures)
 
   s-fits : SFits w64 (toZ w64 (c .before .before .before .loop .s) +ℤ getD (start .args .t1) j (pos 0) *ℤ c .before .wide .result)
-  s-fits = sum-fits (weighable-parts (start .pre)) (c .before .before .loop-test .taken) refl (c .before .wide .ensures) (c .before .before .before .loop .inv)
+  s-fits = sum-fits (start .pre) (c .before .before .loop-test .taken) (c .before .wide .ensures) (c .before .before .before .loop .inv)
 
 mul-s-2 : tie.Need-mul-s-2 Inv-loop μ-loop
 mul-s-2 c = simp (back, p-fits c, x-fits c) (z-fits c)
@@ -74,7 +73,7 @@ loop-less c = omega arith
 loop-again : tie.Need-loop-again Inv-loop μ-loop
 loop-again c =
     simp (back, p-fits c, x-fits c, z-fits c, s-fits c)
-    (weigh-turn (weighable-parts (start c .pre)) (c .before .before .loop-test .taken) refl (c .before .wide .ensures) (c .before .before .before .loop .inv))
+    (weigh-turn (start c .pre) (c .before .before .loop-test .taken) (c .before .wide .ensures) (c .before .before .before .loop .inv))
 
 returns : tie.Need-returns Inv-loop μ-loop
 returns c = weigh-end (c .loop-test .left) (c .before .loop .inv)

@@ -12,7 +12,7 @@ use Rattle.whole.specs.Range.{limit, Within}
 use Rattle.whole.specs.Test.{isWithin}
 use Rattle.whole.proofs.Range.{back, ok64}
 use Rattle.reckoning.specs.Reckoning.{fund}
-use Rattle.reckoning.specs.Arrays.{sharesOf, ratesOf, amountsOf, fundAnswer}
+use Rattle.reckoning.specs.Arrays.{sharesOf, ratesOf, amountsOf, fundReckoned}
 use Rattle.reckoning.specs.declared.Reckoned.{Reckoned}
 use Rattle.reckoning.proofs.CellLoops.{Filled, fill-start, fill-before, fill-turn, fill-refuse, fill-end, fund-within, fund-refused, fund-accepted, held, total-fund}
 use Rattle.reckoning.proofs.fund.Statement.{statement}
@@ -36,7 +36,7 @@ module _ (c : tie.Start Inv-loop μ-loop) where
   f = amountsOf (c .args .flow .now)
 
   -- the equation, and with it the range of the fund
-  answered : {s : Reckoned} → s ≡ fundAnswer r i f (c .args .n) → (s ≡ fundAnswer r i f (c .args .n)) × Within limit (s .fund)
+  answered : {s : Reckoned} → s ≡ fundReckoned r i f (c .args .n) → (s ≡ fundReckoned r i f (c .args .n)) × Within limit (s .fund)
   answered e = (e, subst (λ (s : Reckoned). Within limit (s .fund)) (sym e) (fund-within r i f (c .args .n)))
 
 loop-holds : tie.Need-loop-holds Inv-loop μ-loop

@@ -1,0 +1,13 @@
+-- `arrays::rollover_of` copies the rollover into an array that they fill.
+use mathlib.Core.List.{append-nil}
+use borrow.Author.Needs.{needs}
+use Rattle.arrays.specs.Arrays.{partOf}
+use Rattle.arrays.proofs.rollover_of.Statement.{statement}
+use Rattle.arrays.proofs.rollover_of.Tie as tie
+
+returns : tie.Need-returns
+unfolding partOf
+returns c = simp append-nil at (c .before .copy-u32 .ensures)
+
+pub rollover-of-spec : {M : Type 1} → statement M
+rollover-of-spec = tie.close (tie.spec (λ c. search needs) (λ c κs. search needs) returns)

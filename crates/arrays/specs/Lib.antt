@@ -1,0 +1,2 @@
+-- A plan in plain arrays, one for each width of number.
+pub mod Arrays

@@ -1,0 +1,224 @@
+// A plan in four plain arrays, one for each width of number, and back. The parts of a plan stand in them one after the other, and so do
+// the rows of a table, thirty values each.
+use plan::Instrument;
+use plan::Pattern;
+use plan::Plan;
+use reckoning::Row;
+ghost use mathlib.Core.Path.{_≡_};
+ghost use Prim.Native.Nat.{_+_, _≤_};
+ghost use lib.ListN.{length, drop};
+ghost use lib.Seq.{paste};
+ghost use Rattle.arrays.specs.Arrays.{partOf, allocationFrom, allCounts, allAmounts, allShares, allRates, allGammas, instrumentsOf, patternsOf, planOfArrays};
+
+// Where the outflows begin among the amounts.
+const OUTFLOWS: usize = 480;
+
+// Where the allocation begins among the shares.
+const ALLOCATION: usize = 30;
+
+// ---- from one array to another
+
+// Copies n amounts from place `start` of one array to place `at` of another, whose other places stay.
+fn copy_i64(from: &[i64], start: usize, to: &mut [i64], at: usize, n: usize)
+    requires { ⌜ start + n ≤ length (now from) ⌝ }
+    requires { ⌜ at + n ≤ length (now to) ⌝ }
+    ensures { λ _. ⌜ now (to .exit) ≡ paste (now (to .entry)) at (drop start (now (from .entry))) n ⌝ }
+{
+    for k in 0..n {
+        to[at + k] = from[start + k];
+    }
+}
+
+// The same for shares.
+fn copy_u32(from: &[u32], start: usize, to: &mut [u32], at: usize, n: usize)
+    requires { ⌜ start + n ≤ length (now from) ⌝ }
+    requires { ⌜ at + n ≤ length (now to) ⌝ }
+    ensures { λ _. ⌜ now (to .exit) ≡ paste (now (to .entry)) at (drop start (now (from .entry))) n ⌝ }
+{
+    for k in 0..n {
+        to[at + k] = from[start + k];
+    }
+}
+
+// The same for rates.
+fn copy_i32(from: &[i32], start: usize, to: &mut [i32], at: usize, n: usize)
+    requires { ⌜ start + n ≤ length (now from) ⌝ }
+    requires { ⌜ at + n ≤ length (now to) ⌝ }
+    ensures { λ _. ⌜ now (to .exit) ≡ paste (now (to .entry)) at (drop start (now (from .entry))) n ⌝ }
+{
+    for k in 0..n {
+        to[at + k] = from[start + k];
+    }
+}
+
+// ---- a plan into arrays
+
+// N, n, q and m.
+pub fn put_counts(plan: Plan, out: &mut [usize; 4])
+    ensures { λ _. ⌜ now (out .exit) ≡ allCounts plan ⌝ }
+{
+    *out = [plan.years, plan.instruments, plan.terms, plan.patterns];
+}
+
+// The payments of an instrument.
+fn payments_in(row: Instrument) -> [i64; 30]
+    ensures { λ r. ⌜ r ≡ row .payments ⌝ }
+{
+    row.payments
+}
+
+// The rates of a pattern.
+fn rates_in(row: Pattern) -> [i32; 30]
+    ensures { λ r. ⌜ r ≡ row .rates ⌝ }
+{
+    row.rates
+}
+
+// The gammas of a row.
+fn gammas_in(row: Row) -> [i64; 30]
+    ensures { λ r. ⌜ r ≡ row .values ⌝ }
+{
+    row.values
+}
+
+// The payments of the 16 instruments, then the outflows.
+pub fn put_amounts(plan: Plan, out: &mut [i64; 510])
+    ensures { λ _. ⌜ now (out .exit) ≡ allAmounts plan ⌝ }
+{
+    let rows = plan.instrument;
+    for j in 0..16 {
+        let row = rows[j];
+        let payments = payments_in(row);
+        copy_i64(&payments, 0, out, 30 * j, 30);
+    }
+    let outflows = plan.outflows;
+    copy_i64(&outflows, 0, out, OUTFLOWS, 30);
+}
+
+// The rollover, then the allocation.
+pub fn put_shares(plan: Plan, out: &mut [u32; 46])
+    ensures { λ _. ⌜ now (out .exit) ≡ allShares plan ⌝ }
+{
+    let rollover = plan.rollover;
+    copy_u32(&rollover, 0, out, 0, 30);
+    let allocation = plan.allocation;
+    copy_u32(&allocation, 0, out, ALLOCATION, 16);
+}
+
+// The rates of the 64 patterns.
+pub fn put_rates(plan: Plan, out: &mut [i32; 1920])
+    ensures { λ _. ⌜ now (out .exit) ≡ allRates plan ⌝ }
+{
+    let rows = plan.pattern;
+    for t in 0..64 {
+        let row = rows[t];
+        let rates = rates_in(row);
+        copy_i32(&rates, 0, out, 30 * t, 30);
+    }
+}
+
+// The 30 rows of a table of gammas.
+pub fn put_gammas(rows: [Row; 30], out: &mut [i64; 900])
+    ensures { λ _. ⌜ now (out .exit) ≡ allGammas rows ⌝ }
+{
+    for j in 0..30 {
+        let row = rows[j];
+        let values = gammas_in(row);
+        copy_i64(&values, 0, out, 30 * j, 30);
+    }
+}
+
+// ---- arrays into a plan
+
+// Thirty amounts from place `at` on.
+fn amounts_at(amounts: &[i64], at: usize) -> [i64; 30]
+    requires { ⌜ at + 30 ≤ length (now amounts) ⌝ }
+    ensures { λ r. ⌜ r ≡ partOf (now (amounts .entry)) at 30 ⌝ }
+{
+    let mut part = [0i64; 30];
+    copy_i64(amounts, at, &mut part, 0, 30);
+    part
+}
+
+// Thirty rates from place `at` on.
+fn rates_at(rates: &[i32], at: usize) -> [i32; 30]
+    requires { ⌜ at + 30 ≤ length (now rates) ⌝ }
+    ensures { λ r. ⌜ r ≡ partOf (now (rates .entry)) at 30 ⌝ }
+{
+    let mut part = [0i32; 30];
+    copy_i32(rates, at, &mut part, 0, 30);
+    part
+}
+
+// The instruments: thirty payments each, one instrument after the other.
+fn instruments_of(amounts: &[i64; 510]) -> [Instrument; 16]
+    ensures { λ r. ⌜ r ≡ instrumentsOf (now (amounts .entry)) ⌝ }
+{
+    let none = Instrument {
+        payments: [0i64; 30],
+    };
+    let mut rows = [none; 16];
+    for j in 0..16 {
+        let payments = amounts_at(amounts, 30 * j);
+        rows[j] = Instrument { payments };
+    }
+    rows
+}
+
+// The rollover.
+fn rollover_of(shares: &[u32; 46]) -> [u32; 30]
+    ensures { λ r. ⌜ r ≡ partOf (now (shares .entry)) 0 30 ⌝ }
+{
+    let mut part = [0u32; 30];
+    copy_u32(shares, 0, &mut part, 0, 30);
+    part
+}
+
+// The patterns: thirty rates each, one pattern after the other.
+fn patterns_of(rates: &[i32; 1920]) -> [Pattern; 64]
+    ensures { λ r. ⌜ r ≡ patternsOf (now (rates .entry)) ⌝ }
+{
+    let none = Pattern { rates: [0i32; 30] };
+    let mut rows = [none; 64];
+    for t in 0..64 {
+        let row = rates_at(rates, 30 * t);
+        rows[t] = Pattern { rates: row };
+    }
+    rows
+}
+
+// The allocation.
+fn allocation_of(shares: &[u32; 46]) -> [u32; 16]
+    ensures { λ r. ⌜ r ≡ partOf (now (shares .entry)) allocationFrom 16 ⌝ }
+{
+    let mut part = [0u32; 16];
+    copy_u32(shares, ALLOCATION, &mut part, 0, 16);
+    part
+}
+
+// The plan that such arrays hold, whatever they hold.
+pub fn plan_of(
+    counts: &[usize; 4],
+    amounts: &[i64; 510],
+    shares: &[u32; 46],
+    rates: &[i32; 1920],
+) -> Plan
+    ensures { λ r. ⌜ r ≡ planOfArrays (now (counts .entry)) (now (amounts .entry)) (now (shares .entry)) (now (rates .entry)) ⌝ }
+{
+    let instrument = instruments_of(amounts);
+    let outflows = amounts_at(amounts, OUTFLOWS);
+    let rollover = rollover_of(shares);
+    let pattern = patterns_of(rates);
+    let allocation = allocation_of(shares);
+    Plan {
+        years: counts[0],
+        instruments: counts[1],
+        terms: counts[2],
+        patterns: counts[3],
+        instrument,
+        outflows,
+        rollover,
+        pattern,
+        allocation,
+    }
+}

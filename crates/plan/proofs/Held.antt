@@ -1,0 +1,178 @@
+-- Where what a plan holds stands in its arrays, and that the plan of what is held holds just that.
+use mathlib.Core.Path.{_≡_, refl, sym, ap, ap₂, _∙_, fun-ext}
+use mathlib.Core.List.{List, []}
+use Prim.Native.Nat.{ℕ, _+_, _-_, _≤_, _<_}
+use native.Mathlib.Omega.{arith}
+use lib.IntN.{ℤ, pos}
+use lib.ListN.{getD}
+use Rattle.whole.specs.Entry.{entry}
+use Rattle.whole.specs.Table.{table}
+use Rattle.whole.proofs.Entry.{entry-at, entry-zero, entry-beyond, entry-each, entry-cong, entry-own, entry-none}
+use Rattle.whole.proofs.Table.{table-at}
+use Rattle.plan.specs.declared.Shape.{Shape}
+use Rattle.plan.specs.declared.Instrument.{Instrument}
+use Rattle.plan.specs.declared.Pattern.{Pattern}
+use Rattle.plan.specs.declared.Plan.{Plan}
+use Rattle.plan.specs.Held.{
+  HeldInstrument,
+  HeldPattern,
+  Held,
+  unheldInstrument,
+  unheldPattern,
+  instrumentHeld,
+  patternHeld,
+  shapeOf,
+  instrumentAt,
+  patternAt,
+  instrumentsHeld,
+  outflowsHeld,
+  rolloverHeld,
+  patternsHeld,
+  allocationHeld,
+  held,
+  noInstrument,
+  noPattern,
+  instrumentFrom,
+  patternFrom,
+  planFrom,
+}
+use Rattle.plan.specs.Numbers.{numbers}
+use Rattle.plan.specs.Refusal.{Head}
+
+-- ---- where it stands
+module _ (plan : Plan) where
+  pub instrument-is : (j : ℕ) → j < plan .instruments → held plan .instrument (1 + j) ≡ instrumentHeld (plan .years) (instrumentAt plan j)
+  unfolding instrumentsHeld
+  instrument-is = entry-at unheldInstrument (plan .instruments) (λ j. instrumentHeld (plan .years) (instrumentAt plan j))
+
+  pub pattern-is : (t : ℕ) → t < plan .patterns → held plan .pattern (1 + t) ≡ patternHeld (plan .years) (patternAt plan t)
+  unfolding patternsHeld
+  pattern-is = entry-at unheldPattern (plan .patterns) (λ t. patternHeld (plan .years) (patternAt plan t))
+
+  pub outflow-is : (k : ℕ) → k < plan .years → numbers plan .o (1 + k) ≡ getD (plan .outflows) k (pos 0)
+  unfolding outflowsHeld
+  outflow-is = entry-at (pos 0) (plan .years) (λ k. getD (plan .outflows) k (pos 0))
+
+  pub rollover-is : (d : ℕ) → d < plan .terms → numbers plan .r (1 + d) ≡ getD (plan .rollover) d 0
+  unfolding rolloverHeld
+  rollover-is = entry-at 0 (plan .terms) (λ d. getD (plan .rollover) d 0)
+
+  pub allocation-is : (j : ℕ) → j < plan .instruments → numbers plan .p (1 + j) ≡ getD (plan .allocation) j 0
+  unfolding allocationHeld
+  allocation-is = entry-at 0 (plan .instruments) (λ j. getD (plan .allocation) j 0)
+
+  pub payment-is : (j k : ℕ) → j < plan .instruments → k < plan .years → numbers plan .a (1 + k) (1 + j) ≡ getD (instrumentAt plan j .payments) k (pos 0)
+  payment-is j k h l =
+      ap (λ (a : HeldInstrument). a .payment (1 + k)) (instrument-is j h)
+      ∙ entry-at (pos 0) (plan .years) (λ k. getD (instrumentAt plan j .payments) k (pos 0)) k l
+
+  pub rate-is : (t l : ℕ) → t < plan .patterns → l < plan .years - 1 → numbers plan .i (1 + t) (2 + l) ≡ getD (patternAt plan t .rates) l (pos 0)
+  rate-is t l h k =
+      let e : 2 + l - 1 ≡ 1 + l = omega arith in
+      ap (λ (i : HeldPattern). i .rate (2 + l - 1)) (pattern-is t h)
+      ∙ rw e (entry-at (pos 0) (plan .years - 1) (λ l. getD (patternAt plan t .rates) l (pos 0)) l k)
+
+  -- ---- and where nothing does
+  -- what holds of nothing and of every row of the plan holds at every index
+  pub instrument-each : (Q : HeldInstrument → Type 0) → Q unheldInstrument → ((j : ℕ) → j < plan .instruments → Q (instrumentHeld (plan .years) (instrumentAt plan j)))
+      → (j : ℕ) → Q (held plan .instrument j)
+  unfolding instrumentsHeld
+  instrument-each Q none some = entry-each unheldInstrument (plan .instruments) _ Q none some
+
+  pub pattern-each : (Q : HeldPattern → Type 0) → Q unheldPattern → ((t : ℕ) → t < plan .patterns → Q (patternHeld (plan .years) (patternAt plan t)))
+      → (t : ℕ) → Q (held plan .pattern t)
+  unfolding patternsHeld
+  pattern-each Q none some = entry-each unheldPattern (plan .patterns) _ Q none some
+
+  -- year 0 has no payment and no outflow, nor has a year past the last
+  pub payment-before : (j : ℕ) → numbers plan .a 0 j ≡ pos 0
+  payment-before = instrument-each (λ a. a .payment 0 ≡ pos 0) refl (λ j h. entry-zero (pos 0) (plan .years) _)
+
+  pub payment-past : (k j : ℕ) → plan .years < k → numbers plan .a k j ≡ pos 0
+  payment-past k j h = instrument-each (λ a. a .payment k ≡ pos 0) refl (λ j l. entry-beyond (pos 0) (plan .years) _ k h) j
+
+  pub outflow-before : numbers plan .o 0 ≡ pos 0
+  unfolding outflowsHeld
+  outflow-before = entry-zero (pos 0) (plan .years) _
+
+  pub outflow-past : (k : ℕ) → plan .years < k → numbers plan .o k ≡ pos 0
+  unfolding outflowsHeld
+  outflow-past = entry-beyond (pos 0) (plan .years) _
+
+  -- no share is rolled over before the first term, nor past the last
+  pub rollover-before : numbers plan .r 0 ≡ 0
+  unfolding rolloverHeld
+  rollover-before = entry-zero 0 (plan .terms) _
+
+  pub rollover-past : (d : ℕ) → plan .terms < d → numbers plan .r d ≡ 0
+  unfolding rolloverHeld
+  rollover-past = entry-beyond 0 (plan .terms) _
+
+-- ---- the plan of what is held holds just that
+-- what is held lies within N, n, q and m, and these within the arrays
+pub record Tidy (H : Held) : Type 0 where
+  pub years-few : H .shape .years ≤ 30
+  pub instruments-few : H .shape .instruments ≤ 16
+  pub terms-few : H .shape .terms ≤ 30
+  pub patterns-few : H .shape .patterns ≤ 64
+  pub instrument : H .instrument ≡ entry unheldInstrument (H .shape .instruments) (λ j. H .instrument (1 + j))
+  pub payment : (j : ℕ) → H .instrument j .payment ≡ entry (pos 0) (H .shape .years) (λ k. H .instrument j .payment (1 + k))
+  pub outflow : H .outflow ≡ entry (pos 0) (H .shape .years) (λ k. H .outflow (1 + k))
+  pub rollover : H .rollover ≡ entry 0 (H .shape .terms) (λ d. H .rollover (1 + d))
+  pub pattern : H .pattern ≡ entry unheldPattern (H .shape .patterns) (λ t. H .pattern (1 + t))
+  pub rate : (t : ℕ) → H .pattern t .rate ≡ entry (pos 0) (H .shape .years - 1) (λ l. H .pattern t .rate (1 + l))
+  pub allocation : H .allocation ≡ entry 0 (H .shape .instruments) (λ j. H .allocation (1 + j))
+
+-- what a plan holds does
+pub tidy-held : (plan : Plan) → Head (numbers plan) → Tidy (held plan)
+unfolding instrumentsHeld outflowsHeld rolloverHeld patternsHeld allocationHeld
+tidy-held plan h = record {
+  years-few = h .years-few;
+  instruments-few = h .instruments-few;
+  terms-few = h .terms-few;
+  patterns-few = h .patterns-few;
+  instrument = entry-own unheldInstrument (plan .instruments) _;
+  payment = instrument-each plan (λ a. a .payment ≡ entry (pos 0) (plan .years) (λ k. a .payment (1 + k))) (entry-none (pos 0) (plan .years)) (λ j l. entry-own (pos 0) (plan .years) _);
+  outflow = entry-own (pos 0) (plan .years) _;
+  rollover = entry-own 0 (plan .terms) _;
+  pattern = entry-own unheldPattern (plan .patterns) _;
+  rate = pattern-each plan (λ i. i .rate ≡ entry (pos 0) (plan .years - 1) (λ l. i .rate (1 + l))) (entry-none (pos 0) (plan .years - 1)) (λ t l. entry-own (pos 0) (plan .years - 1) _);
+  allocation = entry-own 0 (plan .instruments) _;
+}
+
+-- the first n of an array that is filled with f are those of f
+entry-table : {A : Type 0} (z d e : A) (m n : ℕ) (f : ℕ → A) → n ≤ m → entry z n (λ k. getD (table m n f d) k e) ≡ entry z n f
+entry-table z d e m n f few = fun-ext (entry-cong z n _ f (λ k l. table-at m n f d e k l few))
+
+module _ (H : Held) (tidy : Tidy H) where
+  same-instruments : instrumentsHeld (planFrom H) ≡ H .instrument
+  unfolding instrumentsHeld planFrom
+  same-instruments =
+      fun-ext (entry-cong unheldInstrument (H .shape .instruments) _ (λ j. H .instrument (1 + j)) (λ j l.
+      ap (instrumentHeld (H .shape .years)) (table-at 16 (H .shape .instruments) (λ j. instrumentFrom (H .shape .years) (H .instrument (1 + j))) noInstrument _ j l (tidy .instruments-few))
+      ∙ ap (λ (f : ℕ → ℤ). record { payment = f }) (entry-table (pos 0) (pos 0) (pos 0) 30 (H .shape .years) _ (tidy .years-few) ∙ sym (tidy .payment (1 + j)))))
+      ∙ sym (tidy .instrument)
+
+  same-patterns : patternsHeld (planFrom H) ≡ H .pattern
+  unfolding patternsHeld planFrom
+  same-patterns =
+      fun-ext (entry-cong unheldPattern (H .shape .patterns) _ (λ t. H .pattern (1 + t)) (λ t l.
+      ap (patternHeld (H .shape .years)) (table-at 64 (H .shape .patterns) (λ t. patternFrom (H .shape .years) (H .pattern (1 + t))) noPattern _ t l (tidy .patterns-few))
+      ∙ ap (λ (f : ℕ → ℤ). record { rate = f }) (entry-table (pos 0) (pos 0) (pos 0) 30 (H .shape .years - 1) _ (omega (arith, tidy .years-few)) ∙ sym (tidy .rate (1 + t)))))
+      ∙ sym (tidy .pattern)
+
+  same-outflows : outflowsHeld (planFrom H) ≡ H .outflow
+  unfolding outflowsHeld planFrom
+  same-outflows = entry-table (pos 0) (pos 0) (pos 0) 30 (H .shape .years) _ (tidy .years-few) ∙ sym (tidy .outflow)
+
+  same-rollover : rolloverHeld (planFrom H) ≡ H .rollover
+  unfolding rolloverHeld planFrom
+  same-rollover = entry-table 0 0 0 30 (H .shape .terms) _ (tidy .terms-few) ∙ sym (tidy .rollover)
+
+  same-allocation : allocationHeld (planFrom H) ≡ H .allocation
+  unfolding allocationHeld planFrom
+  same-allocation = entry-table 0 0 0 16 (H .shape .instruments) _ (tidy .instruments-few) ∙ sym (tidy .allocation)
+
+  pub held-from : held (planFrom H) ≡ H
+  unfolding planFrom
+  held-from = rw (same-instruments, same-outflows, same-rollover, same-patterns, same-allocation)

@@ -1,0 +1,122 @@
+-- What a plan or a file holds, as it was typed: numbers by document 01's indices, each 0 outside N, n, q and m. `held` says it of a plan
+-- held as values; what an array has past these counts plays no part. `planFrom` is the plan that holds just this, with zeros elsewhere.
+use mathlib.Core.List.{List, []}
+use Prim.Native.Nat.{ℕ, _+_, _-_}
+use lib.ListN.{getD, replicate}
+use lib.IntN.{ℤ, pos}
+use Rattle.whole.specs.Entry.{entry}
+use Rattle.whole.specs.Table.{table}
+use Rattle.plan.specs.declared.Shape.{Shape}
+use Rattle.plan.specs.declared.Instrument.{Instrument}
+use Rattle.plan.specs.declared.Pattern.{Pattern}
+use Rattle.plan.specs.declared.Plan.{Plan}
+
+-- an instrument: what it pays in year k
+pub record HeldInstrument : Type 0 where
+  pub payment : (k : ℕ) → ℤ
+
+-- a pattern: its rates, of which the first is that of year 2
+pub record HeldPattern : Type 0 where
+  pub rate : (l : ℕ) → ℤ
+
+pub record Held : Type 0 where
+  pub shape : Shape
+  pub instrument : (j : ℕ) → HeldInstrument
+  pub outflow : (k : ℕ) → ℤ
+  pub rollover : (d : ℕ) → ℕ
+  pub pattern : (t : ℕ) → HeldPattern
+  pub allocation : (j : ℕ) → ℕ
+
+-- what is outside n and m
+abbrev pub unheldInstrument : HeldInstrument
+unheldInstrument = record { payment = λ k. pos 0 }
+
+abbrev pub unheldPattern : HeldPattern
+unheldPattern = record { rate = λ l. pos 0 }
+
+-- ---- of a plan
+-- one row over N years
+abbrev pub instrumentHeld : (N : ℕ) → Instrument → HeldInstrument
+instrumentHeld N row = record { payment = entry (pos 0) N (λ k. getD (row .payments) k (pos 0)) }
+
+abbrev pub patternHeld : (N : ℕ) → Pattern → HeldPattern
+patternHeld N row = record { rate = entry (pos 0) (N - 1) (λ l. getD (row .rates) l (pos 0)) }
+
+module _ (plan : Plan) where
+  abbrev pub shapeOf : Shape
+  shapeOf = record { years = plan .years; instruments = plan .instruments; terms = plan .terms; patterns = plan .patterns }
+
+  -- row j of the instruments and row t of the patterns, counted from 0
+  abbrev pub instrumentAt : (j : ℕ) → Instrument
+  instrumentAt j = getD (plan .instrument) j (record { payments = [] })
+
+  abbrev pub patternAt : (t : ℕ) → Pattern
+  patternAt t = getD (plan .pattern) t (record { rates = [] })
+
+  unfoldable pub instrumentsHeld : (j : ℕ) → HeldInstrument
+  instrumentsHeld = entry unheldInstrument (plan .instruments) (λ j. instrumentHeld (plan .years) (instrumentAt j))
+
+  unfoldable pub outflowsHeld : (k : ℕ) → ℤ
+  outflowsHeld = entry (pos 0) (plan .years) (λ k. getD (plan .outflows) k (pos 0))
+
+  unfoldable pub rolloverHeld : (d : ℕ) → ℕ
+  rolloverHeld = entry 0 (plan .terms) (λ d. getD (plan .rollover) d 0)
+
+  unfoldable pub patternsHeld : (t : ℕ) → HeldPattern
+  patternsHeld = entry unheldPattern (plan .patterns) (λ t. patternHeld (plan .years) (patternAt t))
+
+  unfoldable pub allocationHeld : (j : ℕ) → ℕ
+  allocationHeld = entry 0 (plan .instruments) (λ j. getD (plan .allocation) j 0)
+
+  abbrev pub held : Held
+  held = record {
+    shape = shapeOf;
+    instrument = instrumentsHeld;
+    outflow = outflowsHeld;
+    rollover = rolloverHeld;
+    pattern = patternsHeld;
+    allocation = allocationHeld;
+  }
+
+-- ---- the plan of what is held
+-- nothing held
+abbrev pub noInstrument : Instrument
+noInstrument = record { payments = replicate 30 (pos 0) }
+
+abbrev pub noPattern : Pattern
+noPattern = record { rates = replicate 30 (pos 0) }
+
+abbrev pub noPlan : Plan
+noPlan = record {
+  years = 0;
+  instruments = 0;
+  terms = 0;
+  patterns = 0;
+  instrument = replicate 16 noInstrument;
+  outflows = replicate 30 (pos 0);
+  rollover = replicate 30 0;
+  pattern = replicate 64 noPattern;
+  allocation = replicate 16 0;
+}
+
+-- one row of it
+abbrev pub instrumentFrom : (N : ℕ) → HeldInstrument → Instrument
+instrumentFrom N a = record { payments = table 30 N (λ k. a .payment (1 + k)) (pos 0) }
+
+abbrev pub patternFrom : (N : ℕ) → HeldPattern → Pattern
+patternFrom N i = record { rates = table 30 (N - 1) (λ l. i .rate (1 + l)) (pos 0) }
+
+unfoldable pub planFrom : Held → Plan
+planFrom H =
+    let h = H .shape in
+    record {
+      years = h .years;
+      instruments = h .instruments;
+      terms = h .terms;
+      patterns = h .patterns;
+      instrument = table 16 (h .instruments) (λ j. instrumentFrom (h .years) (H .instrument (1 + j))) noInstrument;
+      outflows = table 30 (h .years) (λ k. H .outflow (1 + k)) (pos 0);
+      rollover = table 30 (h .terms) (λ d. H .rollover (1 + d)) 0;
+      pattern = table 64 (h .patterns) (λ t. patternFrom (h .years) (H .pattern (1 + t))) noPattern;
+      allocation = table 16 (h .instruments) (λ j. H .allocation (1 + j)) 0;
+    }

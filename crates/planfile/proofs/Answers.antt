@@ -1,0 +1,53 @@
+-- What a file that is read without a refusal has.
+use mathlib.Core.Path.{_≡_, refl, ap, _∙_}
+use mathlib.Core.List.{List}
+use Prim.Native.Nat.{ℕ}
+use Rattle.little_endian.specs.LittleEndian.{Bytes}
+use Rattle.plan.specs.Held.{held, planFrom}
+use Rattle.plan.specs.Numbers.{numbers, meaning}
+use Rattle.plan.specs.Refusal.{refusalOf, Accepted}
+use Rattle.plan.proofs.Checks.{first-none, first-next, not-refused, answer-accepted, accepted}
+use Rattle.planfile.specs.declared.ReadAnswer.{ReadAnswer}
+use Rattle.planfile.specs.Checks.{shapeIn, layoutRefusal}
+use Rattle.planfile.specs.Records.{heldIn, fileOf}
+use Rattle.planfile.specs.Reading.{Laid}
+use Rattle.planfile.specs.Read.{numbersIn, readRefusal, readAnswer}
+use Rattle.planfile.proofs.Checks.{layout-laid}
+use Rattle.planfile.proofs.Trips.{file-again, held-read}
+
+module _ (s : List ℕ) (e : readAnswer s .refusal ≡ 0) where
+  none-refused : readRefusal s ≡ 0
+  unfolding readAnswer
+  none-refused = not-refused _ _ (λ (a : ReadAnswer). a .refusal) (λ n. refl) _ e
+
+  -- its records are those that its shape requires
+  laid-read : Laid s (shapeIn s)
+  unfolding readRefusal
+  laid-read = layout-laid s (first-none (layoutRefusal s) _ none-refused)
+
+  -- its plan is that of what it holds, with the same numbers
+  pub plan-read : readAnswer s .plan ≡ planFrom (heldIn s)
+  unfolding readAnswer
+  plan-read = ap (λ (a : ReadAnswer). a .plan) (answer-accepted _ _ _ none-refused)
+
+  pub plan-holds : held (readAnswer s .plan) ≡ heldIn s
+  plan-holds = ap held plan-read ∙ held-read s (laid-read .range)
+
+  pub read-numbers : numbers (readAnswer s .plan) ≡ numbersIn s
+  read-numbers = ap meaning plan-holds
+
+  -- no check refuses it
+  pub plan-passes : refusalOf (numbers (readAnswer s .plan)) ≡ 0
+  unfolding readRefusal
+  plan-passes = ap refusalOf read-numbers ∙ first-next (layoutRefusal s) _ none-refused
+
+  pub read-accepted : Accepted (numbers (readAnswer s .plan))
+  read-accepted = accepted (readAnswer s .plan) plan-passes
+
+  -- the file is that of its plan
+  pub file-of-read : Bytes s → fileOf (held (readAnswer s .plan)) ≡ s
+  file-of-read b = ap fileOf plan-holds ∙ file-again b laid-read
+
+-- what was answered as a, and is not refused, is an accepted plan
+pub accepted-read : (s : List ℕ) {a : ReadAnswer} → a ≡ readAnswer s → a .refusal ≡ 0 → Accepted (numbers (a .plan))
+accepted-read s e f = rw e (read-accepted s (rw e at f))

@@ -1,0 +1,64 @@
+-- How long the file of a plan is.
+use mathlib.Core.Path.{_≡_, refl, sym, ap, _∙_}
+use mathlib.Core.List.{List, [], _∷_}
+use Prim.Native.Nat.{ℕ, zero, suc, _+_, _*_, _-_, _≤_, _<_}
+use native.Mathlib.Nat.{mul-suc, mul-le-mul}
+use native.Mathlib.Omega.{arith}
+use lib.ListN.{length, length-append}
+use Rattle.whole.specs.Entry.{nth}
+use Rattle.whole.specs.Table.{table}
+use Rattle.little_endian.proofs.Runs.{length-run}
+use Rattle.records.specs.Record.{Rec, fileBytes}
+use Rattle.records.proofs.Record.{length-record, file-append}
+use Rattle.plan.specs.declared.Shape.{Shape}
+use Rattle.plan.specs.Held.{Held}
+use Rattle.planfile.specs.declared.Group.{Group}
+use Rattle.planfile.specs.Groups.{groupsOf, one, many, none, laid}
+use Rattle.planfile.specs.Rows.{instrumentRec, patternRec}
+use Rattle.planfile.specs.Records.{recordOf, fileFrom, fileOf}
+use Rattle.planfile.specs.Reading.{InRange}
+
+-- n records of b bytes each
+rows-length : (b : ℕ) (f : ℕ → Rec) → ((j : ℕ) → length (f j .body) ≡ b) → (n : ℕ) → length (fileBytes (table n n f none)) ≡ (4 + b) * n
+unfolding fileBytes table
+rows-length b f e zero = omega arith
+rows-length b f e (suc n) = rw (length-append, length-record (f 0), e 0, mul-suc) (omega (arith, rows-length b (λ j. f (suc j)) (λ j. e (suc j)) n))
+
+-- a group, and the groups after it
+group-length : (f : (role j : ℕ) → Rec) (role count b : ℕ) (gs : List Group) → ((j : ℕ) → length (f role j .body) ≡ b)
+    → length (fileBytes (laid (many role count ∷ gs) f)) ≡ (4 + b) * count + length (fileBytes (laid gs f))
+unfolding laid
+group-length f role count b gs e = rw (file-append, length-append, rows-length b (f role) e count)
+
+module _ (H : Held) where
+  abbrev h : Shape
+  h = H .shape
+
+  pub length-is : length (fileOf H)
+      ≡ 8 + (4 + 8 * h .years) * h .instruments + (4 + 8 * h .years) + (4 + 4 * h .terms) + (4 + 4 * (h .years - 1)) * h .patterns + (4 + 4 * h .instruments)
+  unfolding fileOf fileFrom groupsOf recordOf instrumentRec patternRec laid fileBytes nth
+  length-is =
+      let f = recordOf H in
+      let after-6 = [] in
+      let after-5 = one 6 ∷ after-6 in
+      let after-4 = many 5 (h .patterns) ∷ after-5 in
+      let after-3 = one 4 ∷ after-4 in
+      let after-2 = one 3 ∷ after-3 in
+      omega (
+        arith,
+        group-length f 1 1 4 (many 2 (h .instruments) ∷ after-2) (λ j. refl),
+        group-length f 2 (h .instruments) (8 * h .years) after-2 (λ j. length-run 8 (h .years) _),
+        group-length f 3 1 (8 * h .years) after-3 (λ j. length-run 8 (h .years) _),
+        group-length f 4 1 (4 * h .terms) after-4 (λ j. length-run 4 (h .terms) _),
+        group-length f 5 (h .patterns) (4 * (h .years - 1)) after-5 (λ j. length-run 4 (h .years - 1) _),
+        group-length f 6 1 (4 * h .instruments) after-6 (λ j. length-run 4 (h .instruments) _),
+      )
+
+  -- 12,028 bytes at most
+  pub longest-file : InRange h → length (fileOf H) ≤ 12_028
+  longest-file r =
+      let payments : 4 + 8 * h .years ≤ 244 = omega (arith, r .years-few) in
+      let rates : 4 + 4 * (h .years - 1) ≤ 120 = omega (arith, r .years-few) in
+      let rows : (4 + 8 * h .years) * h .instruments ≤ 244 * 16 = mul-le-mul payments (r .instruments-few) in
+      let patterns : (4 + 4 * (h .years - 1)) * h .patterns ≤ 120 * 64 = mul-le-mul rates (r .patterns-few) in
+      omega (arith, length-is, rows, patterns, r .years-few, r .terms-few, r .instruments-few)

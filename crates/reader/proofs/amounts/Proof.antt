@@ -1,0 +1,64 @@
+-- `reader::amounts` fills its array with the signed numbers of the body.
+use mathlib.Core.Path.{_∙_}
+use Prim.Native.Nat.{_-_}
+use native.Mathlib.Omega.{arith}
+use lib.IntN.{pos}
+use mir.Syntax.{w64}
+use mir.ValLaws.{toZ-ofZ}
+use Rattle.whole.proofs.Filling.{Filling, fill-start, fill-turn, fill-end}
+use Rattle.little_endian.specs.Runs.{numberAt}
+use Rattle.little_endian.specs.TwosComplement.{signedOf}
+use Rattle.reader.proofs.amounts.Statement.{statement}
+use Rattle.reader.proofs.amounts.Tie as tie
+
+abbrev Inv-loop : tie.InvT-loop
+Inv-loop body n amounts₀ k₀ amounts k = Filling 30 n (λ k. signedOf 8 (numberAt 8 body k)) (pos 0) amounts k
+
+abbrev μ-loop : tie.MeasureT-loop
+μ-loop body n amounts₀ k₀ amounts k = n - k
+
+loop-holds : tie.Need-loop-holds Inv-loop μ-loop
+loop-holds c = fill-start
+
+mul-i64-at : tie.Need-mul-i64-at Inv-loop μ-loop
+mul-i64-at c = omega arith
+
+i64-at-requires : tie.Need-i64-at-requires Inv-loop μ-loop
+i64-at-requires c κs = omega arith
+
+mul-amounts : tie.Need-mul-amounts Inv-loop μ-loop
+mul-amounts c = omega arith
+
+array-set-from-amounts : tie.Need-array-set-from-amounts Inv-loop μ-loop
+array-set-from-amounts c = omega arith
+
+add-k : tie.Need-add-k Inv-loop μ-loop
+add-k c = omega arith
+
+loop-less : tie.Need-loop-less Inv-loop μ-loop
+loop-less c = omega arith
+
+loop-again : tie.Need-loop-again Inv-loop μ-loop
+unfolding numberAt
+loop-again c =
+    let l = c .before .before .loop in
+    fill-turn (omega arith) (c .before .loop-test .taken) (l .inv) (toZ-ofZ w64 _ (record { sfits = c .i64-at .ok }) ∙ c .i64-at .ensures)
+
+returns : tie.Need-returns Inv-loop μ-loop
+returns c = fill-end (c .loop-test .left) (c .before .loop .inv)
+
+pub amounts-spec : {M : Type 1} → statement M
+amounts-spec =
+    tie.close
+    (tie.spec
+    Inv-loop
+    μ-loop
+    loop-holds
+    mul-i64-at
+    i64-at-requires
+    mul-amounts
+    array-set-from-amounts
+    add-k
+    loop-less
+    loop-again
+    returns)

@@ -1,0 +1,64 @@
+-- `reader::rates` fills its array with the signed numbers of the body.
+use mathlib.Core.Path.{_∙_}
+use Prim.Native.Nat.{_-_}
+use native.Mathlib.Omega.{arith}
+use lib.IntN.{pos}
+use mir.Syntax.{w32}
+use mir.ValLaws.{toZ-ofZ}
+use Rattle.whole.proofs.Filling.{Filling, fill-start, fill-turn, fill-end}
+use Rattle.little_endian.specs.Runs.{numberAt}
+use Rattle.little_endian.specs.TwosComplement.{signedOf}
+use Rattle.reader.proofs.rates.Statement.{statement}
+use Rattle.reader.proofs.rates.Tie as tie
+
+abbrev Inv-loop : tie.InvT-loop
+Inv-loop body n rates₀ k₀ rates k = Filling 30 n (λ k. signedOf 4 (numberAt 4 body k)) (pos 0) rates k
+
+abbrev μ-loop : tie.MeasureT-loop
+μ-loop body n rates₀ k₀ rates k = n - k
+
+loop-holds : tie.Need-loop-holds Inv-loop μ-loop
+loop-holds c = fill-start
+
+mul-i32-at : tie.Need-mul-i32-at Inv-loop μ-loop
+mul-i32-at c = omega arith
+
+i32-at-requires : tie.Need-i32-at-requires Inv-loop μ-loop
+i32-at-requires c κs = omega arith
+
+mul-rates : tie.Need-mul-rates Inv-loop μ-loop
+mul-rates c = omega arith
+
+array-set-from-rates : tie.Need-array-set-from-rates Inv-loop μ-loop
+array-set-from-rates c = omega arith
+
+add-k : tie.Need-add-k Inv-loop μ-loop
+add-k c = omega arith
+
+loop-less : tie.Need-loop-less Inv-loop μ-loop
+loop-less c = omega arith
+
+loop-again : tie.Need-loop-again Inv-loop μ-loop
+unfolding numberAt
+loop-again c =
+    let l = c .before .before .loop in
+    fill-turn (omega arith) (c .before .loop-test .taken) (l .inv) (toZ-ofZ w32 _ (record { sfits = c .i32-at .ok }) ∙ c .i32-at .ensures)
+
+returns : tie.Need-returns Inv-loop μ-loop
+returns c = fill-end (c .loop-test .left) (c .before .loop .inv)
+
+pub rates-spec : {M : Type 1} → statement M
+rates-spec =
+    tie.close
+    (tie.spec
+    Inv-loop
+    μ-loop
+    loop-holds
+    mul-i32-at
+    i32-at-requires
+    mul-rates
+    array-set-from-rates
+    add-k
+    loop-less
+    loop-again
+    returns)

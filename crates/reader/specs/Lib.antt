@@ -1,0 +1,2 @@
+-- The reader of plan files. What `read` answers is said by planfile's definitions; Reading is for the reader's own functions.
+pub mod Reading

@@ -1,0 +1,26 @@
+-- What the reader's own functions require and ensure of one another. Nothing that `read` promises rests on these definitions.
+use mathlib.Core.List.{List}
+use Prim.Native.Nat.{ℕ, _-_, _≤_}
+use lib.IntN.{ℤ, pos}
+use lib.ListN.{length, take, drop}
+use Rattle.whole.specs.Table.{table}
+use Rattle.little_endian.specs.TwosComplement.{signedOf}
+use Rattle.little_endian.specs.Runs.{numberAt}
+
+-- a file has the places from a start up to an end, and the bytes that stand there
+pub record Inside (s : List ℕ) (start end : ℕ) : Type 0 where
+  pub ordered : start ≤ end
+  pub fits : end ≤ length s
+
+abbrev pub partOf : List ℕ → (start end : ℕ) → List ℕ
+partOf s start end = take (end - start) (drop start s)
+
+-- the first n numbers of a body in an array, with zeros past them: amounts, rates, and shares in an array of m
+abbrev pub amountsRead : (n : ℕ) → (body : List ℕ) → List ℤ
+amountsRead n body = table 30 n (λ k. signedOf 8 (numberAt 8 body k)) (pos 0)
+
+abbrev pub ratesRead : (n : ℕ) → (body : List ℕ) → List ℤ
+ratesRead n body = table 30 n (λ k. signedOf 4 (numberAt 4 body k)) (pos 0)
+
+abbrev pub sharesRead : (m n : ℕ) → (body : List ℕ) → List ℕ
+sharesRead m n body = table m n (numberAt 4 body) 0

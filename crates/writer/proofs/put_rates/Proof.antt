@@ -1,0 +1,75 @@
+-- `writer::put_rates` puts down number after number.
+use mathlib.Core.Path.{sym, ap, _∙_}
+use Prim.Native.Nat.{_-_}
+use native.Mathlib.Omega.{arith}
+use mir.Facts.{toZ-ofZ}
+use lib.IntN.{pos}
+use Rattle.whole.proofs.Entry.{entry-at}
+use Rattle.little_endian.specs.TwosComplement.{unsignedOf}
+use Rattle.little_endian.proofs.Wrote.{Putting, room-more, putting-all, run-turn}
+use Rattle.planfile.specs.Rows.{ratesBytes}
+use Rattle.writer.specs.First.{first}
+use Rattle.writer.proofs.Record.{run-from}
+use Rattle.writer.proofs.put_rates.Statement.{statement}
+use Rattle.writer.proofs.put_rates.Tie as tie
+
+abbrev Inv-loop : tie.InvT-loop
+Inv-loop b₀ at xs n place₀ k₀ b place k = Putting 4 n (λ k. ratesBytes k (first (pos 0) n xs)) b₀ at b place k
+
+abbrev μ-loop : tie.MeasureT-loop
+μ-loop b₀ at xs n place₀ k₀ b place k = n - k
+
+loop-holds : tie.Need-loop-holds Inv-loop μ-loop
+loop-holds c = run-from 4 _ (c .before .pre .1)
+
+mul-put-i32 : tie.Need-mul-put-i32 Inv-loop μ-loop
+mul-put-i32 c = omega arith
+
+shared-slice-copy-out-put-i32 : tie.Need-shared-slice-copy-out-put-i32 Inv-loop μ-loop
+shared-slice-copy-out-put-i32 c = omega arith
+
+put-i32-requires : tie.Need-put-i32-requires Inv-loop μ-loop
+put-i32-requires c κs =
+    let d = c .before .before in
+    room-more (d .before .loop .inv) (d .loop-test .taken)
+
+add-place : tie.Need-add-place Inv-loop μ-loop
+add-place c =
+    let d = c .before .before .before .before .before in
+    omega (arith, room-more (d .before .loop .inv) (d .loop-test .taken), d .before .loop .inv .length-kept)
+
+add-k : tie.Need-add-k Inv-loop μ-loop
+add-k c = omega arith
+
+loop-less : tie.Need-loop-less Inv-loop μ-loop
+loop-less c = omega arith
+
+loop-again : tie.Need-loop-again Inv-loop μ-loop
+loop-again c =
+    let d = c .before .before .before .before .before in
+    let l = d .loop-test .taken in
+    run-turn 4 _ (d .before .loop .inv) l (c .before .before .put-i32 .ensures)
+    (ap (unsignedOf 4) (toZ-ofZ (record { sfits = c .before .before .before .put-i32-arg2 .given }) ∙ sym (entry-at (pos 0) _ _ _ l)))
+
+same-length : tie.Need-same-length Inv-loop μ-loop
+same-length c = c .before .loop .inv .length-kept
+
+returns : tie.Need-returns Inv-loop μ-loop
+returns c = putting-all (c .before .loop .inv) (c .loop-test .left)
+
+pub put-rates-spec : {M : Type 1} → statement M
+put-rates-spec =
+    tie.close
+    (tie.spec
+    Inv-loop
+    μ-loop
+    loop-holds
+    mul-put-i32
+    shared-slice-copy-out-put-i32
+    put-i32-requires
+    add-place
+    add-k
+    loop-less
+    loop-again
+    same-length
+    returns)

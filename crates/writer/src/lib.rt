@@ -1,0 +1,228 @@
+// The writer of plan files: a plan's records, one after the other, into a lent buffer.
+use plan::Instrument;
+use plan::Pattern;
+use plan::Plan;
+use plan::Shape;
+use planfile::WriteAnswer;
+ghost use mathlib.Core.Path.{_≡_};
+ghost use mathlib.Core.List.{_++_};
+ghost use Prim.Native.Nat.{_+_, _≤_, _<_};
+ghost use lib.IntN.{pos};
+ghost use lib.ListN.{length, take};
+ghost use Rattle.little_endian.specs.LittleEndian.{bytesOf};
+ghost use Rattle.little_endian.specs.Wrote.{Room, Wrote};
+ghost use Rattle.records.specs.Record.{recordBytes};
+ghost use Rattle.plan.specs.Held.{shapeOf, instrumentHeld, patternHeld, held};
+ghost use Rattle.planfile.specs.Groups.{groupsOf, countOf};
+ghost use Rattle.planfile.specs.Rows.{rec, amountsBytes, ratesBytes, sharesBytes, headRec, instrumentRec, patternRec};
+ghost use Rattle.planfile.specs.Records.{recordOf, fileOf};
+ghost use Rattle.planfile.specs.Reading.{InRange};
+ghost use Rattle.planfile.specs.Write.{writeAnswer, bufferAfter};
+ghost use Rattle.planfile.specs.Demand2.{OneFile};
+ghost use Rattle.writer.specs.First.{first};
+
+// ---- numbers
+
+// The four bytes in front of a body: its length and its kind. The place after them.
+fn put_front(b: &mut [u8], at: usize, kind: u16, size: u16) -> usize
+    requires { ⌜ at + 4 ≤ length (now b) ⌝ }
+    ensures { λ r. ⌜ Wrote (now (b .entry)) (now (b .exit)) at (bytesOf 2 size ++ bytesOf 2 kind) r ⌝ }
+{
+    little_endian::put_u16(b, at, size);
+    little_endian::put_u16(b, at + 2, kind);
+    at + 4
+}
+
+// The first n amounts, 8 bytes each. The place after them.
+fn put_amounts(b: &mut [u8], at: usize, xs: &[i64], n: usize) -> usize
+    requires { ⌜ n ≤ length (now xs) ⌝ }
+    requires { ⌜ Room (now b) at (amountsBytes n (first (pos 0) n (now xs))) ⌝ }
+    ensures { λ r. ⌜ Wrote (now (b .entry)) (now (b .exit)) at (amountsBytes n (first (pos 0) n (now (xs .entry)))) r ⌝ }
+{
+    let mut place = at;
+    for k in 0..n {
+        little_endian::put_i64(b, place, xs[k]);
+        place += 8;
+    }
+    place
+}
+
+// The first n rates, 4 bytes each. The place after them.
+fn put_rates(b: &mut [u8], at: usize, xs: &[i32], n: usize) -> usize
+    requires { ⌜ n ≤ length (now xs) ⌝ }
+    requires { ⌜ Room (now b) at (ratesBytes n (first (pos 0) n (now xs))) ⌝ }
+    ensures { λ r. ⌜ Wrote (now (b .entry)) (now (b .exit)) at (ratesBytes n (first (pos 0) n (now (xs .entry)))) r ⌝ }
+{
+    let mut place = at;
+    for k in 0..n {
+        little_endian::put_i32(b, place, xs[k]);
+        place += 4;
+    }
+    place
+}
+
+// The first n shares, 4 bytes each. The place after them.
+fn put_shares(b: &mut [u8], at: usize, xs: &[u32], n: usize) -> usize
+    requires { ⌜ n ≤ length (now xs) ⌝ }
+    requires { ⌜ Room (now b) at (sharesBytes n (first 0 n (now xs))) ⌝ }
+    ensures { λ r. ⌜ Wrote (now (b .entry)) (now (b .exit)) at (sharesBytes n (first 0 n (now (xs .entry)))) r ⌝ }
+{
+    let mut place = at;
+    for k in 0..n {
+        little_endian::put_u32(b, place, xs[k]);
+        place += 4;
+    }
+    place
+}
+
+// ---- records
+
+// A record of n amounts. The place after it.
+fn put_amounts_record(b: &mut [u8], at: usize, kind: u16, xs: &[i64], n: usize) -> usize
+    requires { ⌜ n ≤ 30 ⌝ }
+    requires { ⌜ n ≤ length (now xs) ⌝ }
+    requires { ⌜ Room (now b) at (recordBytes (rec kind (amountsBytes n (first (pos 0) n (now xs))))) ⌝ }
+    ensures { λ r. ⌜ Wrote (now (b .entry)) (now (b .exit)) at (recordBytes (rec kind (amountsBytes n (first (pos 0) n (now (xs .entry)))))) r ⌝ }
+{
+    let body = put_front(b, at, kind, (8 * n) as u16);
+    put_amounts(b, body, xs, n)
+}
+
+// A record of n shares. The place after it.
+fn put_shares_record(b: &mut [u8], at: usize, kind: u16, xs: &[u32], n: usize) -> usize
+    requires { ⌜ n ≤ 30 ⌝ }
+    requires { ⌜ n ≤ length (now xs) ⌝ }
+    requires { ⌜ Room (now b) at (recordBytes (rec kind (sharesBytes n (first 0 n (now xs))))) ⌝ }
+    ensures { λ r. ⌜ Wrote (now (b .entry)) (now (b .exit)) at (recordBytes (rec kind (sharesBytes n (first 0 n (now (xs .entry)))))) r ⌝ }
+{
+    let body = put_front(b, at, kind, (4 * n) as u16);
+    put_shares(b, body, xs, n)
+}
+
+// The head's record: N, n, q and m, a byte each. The place after it.
+fn put_head(b: &mut [u8], at: usize, shape: Shape) -> usize
+    requires { ⌜ InRange shape ⌝ }
+    requires { ⌜ Room (now b) at (recordBytes (headRec shape)) ⌝ }
+    ensures { λ r. ⌜ Wrote (now (b .entry)) (now (b .exit)) at (recordBytes (headRec shape)) r ⌝ }
+{
+    let body = put_front(b, at, 1, 4);
+    b[body] = shape.years as u8;
+    b[body + 1] = shape.instruments as u8;
+    b[body + 2] = shape.terms as u8;
+    b[body + 3] = shape.patterns as u8;
+    body + 4
+}
+
+// An instrument's record: what it pays in each year. The place after it.
+fn put_instrument(b: &mut [u8], at: usize, row: Instrument, years: usize) -> usize
+    requires { ⌜ years ≤ 30 ⌝ }
+    requires { ⌜ Room (now b) at (recordBytes (instrumentRec years (instrumentHeld years row))) ⌝ }
+    ensures { λ r. ⌜ Wrote (now (b .entry)) (now (b .exit)) at (recordBytes (instrumentRec years (instrumentHeld years row))) r ⌝ }
+{
+    let payments = row.payments;
+    put_amounts_record(b, at, 2, &payments, years)
+}
+
+// A pattern's record: its rates, one fewer than there are years. The place after it.
+fn put_pattern(b: &mut [u8], at: usize, row: Pattern, years: usize) -> usize
+    requires { ⌜ 1 ≤ years ⌝ }
+    requires { ⌜ years ≤ 30 ⌝ }
+    requires { ⌜ Room (now b) at (recordBytes (patternRec years (patternHeld years row))) ⌝ }
+    ensures { λ r. ⌜ Wrote (now (b .entry)) (now (b .exit)) at (recordBytes (patternRec years (patternHeld years row))) r ⌝ }
+{
+    let rates = row.rates;
+    let n = years - 1;
+    let body = put_front(b, at, 5, (4 * n) as u16);
+    put_rates(b, body, &rates, n)
+}
+
+// Record j of a role. The place after it.
+fn put_record(b: &mut [u8], at: usize, plan: Plan, role: usize, j: usize) -> usize
+    requires { ⌜ InRange (shapeOf plan) ⌝ }
+    requires { ⌜ j < countOf (groupsOf (shapeOf plan)) role ⌝ }
+    requires { ⌜ Room (now b) at (recordBytes (recordOf (held plan) role j)) ⌝ }
+    ensures { λ r. ⌜ Wrote (now (b .entry)) (now (b .exit)) at (recordBytes (recordOf (held plan) role j)) r ⌝ }
+{
+    let years = plan.years;
+    match role {
+        1 => {
+            let shape = plan::shape_of(plan);
+            put_head(b, at, shape)
+        }
+        2 => {
+            let row = plan.instrument[j];
+            put_instrument(b, at, row, years)
+        }
+        3 => {
+            let outflows = plan.outflows;
+            put_amounts_record(b, at, 3, &outflows, years)
+        }
+        4 => {
+            let rollover = plan.rollover;
+            put_shares_record(b, at, 4, &rollover, plan.terms)
+        }
+        5 => {
+            let row = plan.pattern[j];
+            put_pattern(b, at, row, years)
+        }
+        6 => {
+            let allocation = plan.allocation;
+            put_shares_record(b, at, 6, &allocation, plan.instruments)
+        }
+        _ => at,
+    }
+}
+
+// ---- the file
+
+// The plan's records, one after the other, from the front of the buffer on. The place after them.
+fn put_file(b: &mut [u8], plan: Plan) -> usize
+    requires { ⌜ InRange (shapeOf plan) ⌝ }
+    requires { ⌜ Room (now b) 0 (fileOf (held plan)) ⌝ }
+    ensures { λ r. ⌜ Wrote (now (b .entry)) (now (b .exit)) 0 (fileOf (held plan)) r ⌝ }
+{
+    let shape = plan::shape_of(plan);
+    let count = planfile::count(shape);
+    let mut place = 0;
+    for t in 0..count {
+        let spot = planfile::spot_at(shape, t);
+        place = put_record(b, place, plan, spot.role, spot.index);
+    }
+    place
+}
+
+// The length of the plan's file: each record has four bytes and its body.
+fn file_size(plan: Plan) -> usize
+    requires { ⌜ InRange (shapeOf plan) ⌝ }
+    ensures { λ r. ⌜ r ≡ length (fileOf (held plan)) ⌝ }
+{
+    let shape = plan::shape_of(plan);
+    let count = planfile::count(shape);
+    let mut sum = 0;
+    for t in 0..count {
+        let spot = planfile::spot_at(shape, t);
+        sum += 4 + planfile::size_of(shape, spot.role);
+    }
+    sum
+}
+
+// The plan's file in the first bytes of the buffer, or the number of the first of the checks 3, 6 to 9 and 12 that fails.
+pub fn write(plan: Plan, buffer: &mut [u8]) -> WriteAnswer
+    ensures is { λ r. ⌜ r ≡ writeAnswer plan (now (buffer .entry)) ⌝ }
+    ensures left { λ r. ⌜ now (buffer .exit) ≡ bufferAfter plan (now (buffer .entry)) ⌝ }
+    ensures kept { λ r. ⌜ (r .refusal ≡ 0 → OneFile (take (r .length) (now (buffer .exit))) plan) ⌝ }
+{
+    let refusal = plan::refusal(plan);
+    if refusal != 0 {
+        return WriteAnswer { refusal, length: 0 };
+    }
+    let length = file_size(plan);
+    if buffer.len() < length {
+        return WriteAnswer {
+            refusal: 12,
+            length: 0,
+        };
+    }
+    put_file(buffer, plan);
+    WriteAnswer { refusal: 0, length }
+}
