@@ -17,17 +17,17 @@ use Rattle.plan.specs.declared.Plan.{Plan}
 use Rattle.plan.specs.Held.{Held, instrumentAt, patternAt, noInstrument, noPattern, planFrom}
 use Rattle.plan.specs.Numbers.{meaning}
 use Rattle.plan.specs.Refusal.{Head}
-use Rattle.arrays.specs.Arrays.{joined, partOf, outflowsFrom, allocationFrom, allCounts, allAmounts, allShares, allRates, instrumentsOf, patternsOf, planOfArrays}
+use Rattle.arrays.specs.Arrays.{joined, valuesAt, outflowsFrom, allocationFrom, allCounts, allAmounts, allShares, allRates, instrumentsOf, patternsOf, planOfArrays}
 
 -- ---- parts
 module _ {A : Type 0} where
   -- of the first of two lists, and the second
-  part-first : (xs ys : List A) (at n : ℕ) → at + n ≤ length xs → partOf (xs ++ ys) at n ≡ partOf xs at n
-  unfolding partOf
+  part-first : (xs ys : List A) (at n : ℕ) → at + n ≤ length xs → valuesAt (xs ++ ys) at n ≡ valuesAt xs at n
+  unfolding valuesAt
   part-first xs ys at n h = rw (drop-append-le at xs ys (omega arith)) (take-append-le n (drop at xs) ys (simp length-drop (omega arith)))
 
-  part-second : (xs ys : List A) (at n : ℕ) → length xs ≡ at → length ys ≡ n → partOf (xs ++ ys) at n ≡ ys
-  unfolding partOf
+  part-second : (xs ys : List A) (at n : ℕ) → length xs ≡ at → length ys ≡ n → valuesAt (xs ++ ys) at n ≡ ys
+  unfolding valuesAt
   part-second xs ys at n before few = rw (drop-at xs ys at before) (take-all n ys (omega arith))
 
   -- of rows of thirty that are joined: row j stands from place 30 j on
@@ -38,7 +38,7 @@ module _ {A : Type 0} where
     length-joined (suc n) long =
         length-append (joined n row) (row n) ∙ omega (arith, length-joined n (λ j h. long j (omega arith)), long n (omega arith))
 
-    part-joined : (n : ℕ) → ((j : ℕ) → j < n → length (row j) ≡ 30) → (j : ℕ) → j < n → partOf (joined n row) (30 * j) 30 ≡ row j
+    part-joined : (n : ℕ) → ((j : ℕ) → j < n → length (row j) ≡ 30) → (j : ℕ) → j < n → valuesAt (joined n row) (30 * j) 30 ≡ row j
     unfolding joined
     part-joined zero long j h = absurd (not-suc-le-zero h)
     part-joined (suc n) long j h =
@@ -50,9 +50,9 @@ module _ {A : Type 0} where
 
 -- rows made of the parts of xs, each of which is what the row had
 rows-again : {A R : Type 0} (make : List A → R) (none : R) (n : ℕ) (rows : List R) (xs : List A) → length rows ≡ n
-    → ((j : ℕ) → j < n → make (partOf xs (30 * j) 30) ≡ getD rows j (make [])) → table n n (λ j. make (partOf xs (30 * j) 30)) none ≡ rows
+    → ((j : ℕ) → j < n → make (valuesAt xs (30 * j) 30) ≡ getD rows j (make [])) → table n n (λ j. make (valuesAt xs (30 * j) 30)) none ≡ rows
 rows-again make none n rows xs count same =
-    let few = length-table n n (λ j. make (partOf xs (30 * j) 30)) none (omega arith) in
+    let few = length-table n n (λ j. make (valuesAt xs (30 * j) 30)) none (omega arith) in
     ext-getD (make []) _ rows (few ∙ sym count) (λ j l. let h : j < n = omega (arith, few) in table-at n n _ none (make []) j h (omega arith) ∙ same j h)
 
 -- ---- a plan whose arrays have their lengths
@@ -79,7 +79,7 @@ module _ (p : Plan) (s : Sized p) where
       (λ j h. ap (λ (l : List ℤ). record { payments = l })
       (part-first (joined 16 paid) (p .outflows) (30 * j) 30 (omega (arith, paid-long)) ∙ part-joined paid 16 (s .payments) j h))
 
-  outflows-again : partOf (allAmounts p) outflowsFrom 30 ≡ p .outflows
+  outflows-again : valuesAt (allAmounts p) outflowsFrom 30 ≡ p .outflows
   unfolding allAmounts
   outflows-again = part-second (joined 16 paid) (p .outflows) outflowsFrom 30 paid-long (s .outflows)
 
@@ -90,7 +90,7 @@ module _ (p : Plan) (s : Sized p) where
       (λ t h. ap (λ (l : List ℤ). record { rates = l }) (part-joined (λ t. patternAt p t .rates) 64 (s .rates) t h))
 
   pub plan-again : planOfArrays (allCounts p) (allAmounts p) (allShares p) (allRates p) ≡ p
-  unfolding planOfArrays partOf
+  unfolding planOfArrays valuesAt
   plan-again =
       rw (instruments-again, outflows-again, patterns-again)
       (rw (take-at (p .rollover) (p .allocation) 30 (s .rollover), part-second (p .rollover) (p .allocation) allocationFrom 16 (s .rollover) (s .allocation)))

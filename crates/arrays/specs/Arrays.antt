@@ -18,8 +18,8 @@ module _ {A : Type 0} where
   joined (suc n) row = joined n row ++ row n
 
   -- n values from place `at` on
-  unfoldable pub partOf : List A → (at n : ℕ) → List A
-  partOf xs at n = take n (drop at xs)
+  unfoldable pub valuesAt : List A → (at n : ℕ) → List A
+  valuesAt xs at n = take n (drop at xs)
 
 -- ---- the arrays of a plan
 -- where the outflows begin among the amounts, and the allocation among the shares
@@ -52,10 +52,10 @@ allGammas rows = joined 30 (λ j. getD rows j (record { values = [] }) .values)
 -- ---- the plan that such arrays hold
 -- its instruments, and its patterns
 unfoldable pub instrumentsOf : (amounts : List ℤ) → List Instrument
-instrumentsOf amounts = table 16 16 (λ j. record { payments = partOf amounts (30 * j) 30 }) noInstrument
+instrumentsOf amounts = table 16 16 (λ j. record { payments = valuesAt amounts (30 * j) 30 }) noInstrument
 
 unfoldable pub patternsOf : (rates : List ℤ) → List Pattern
-patternsOf rates = table 64 64 (λ t. record { rates = partOf rates (30 * t) 30 }) noPattern
+patternsOf rates = table 64 64 (λ t. record { rates = valuesAt rates (30 * t) 30 }) noPattern
 
 -- the whole plan
 unfoldable pub planOfArrays : (counts : List ℕ) → (amounts : List ℤ) → (shares : List ℕ) → (rates : List ℤ) → Plan
@@ -65,8 +65,8 @@ planOfArrays counts amounts shares rates = record {
   terms = getD counts 2 0;
   patterns = getD counts 3 0;
   instrument = instrumentsOf amounts;
-  outflows = partOf amounts outflowsFrom 30;
-  rollover = partOf shares 0 30;
+  outflows = valuesAt amounts outflowsFrom 30;
+  rollover = valuesAt shares 0 30;
   pattern = patternsOf rates;
-  allocation = partOf shares allocationFrom 16;
+  allocation = valuesAt shares allocationFrom 16;
 }

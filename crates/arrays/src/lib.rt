@@ -8,7 +8,7 @@ ghost use mathlib.Core.Path.{_≡_};
 ghost use Prim.Native.Nat.{_+_, _≤_};
 ghost use lib.ListN.{length, drop};
 ghost use lib.Seq.{paste};
-ghost use Rattle.arrays.specs.Arrays.{partOf, allocationFrom, allCounts, allAmounts, allShares, allRates, allGammas, instrumentsOf, patternsOf, planOfArrays};
+ghost use Rattle.arrays.specs.Arrays.{valuesAt, allocationFrom, allCounts, allAmounts, allShares, allRates, allGammas, instrumentsOf, patternsOf, planOfArrays};
 
 // Where the outflows begin among the amounts.
 const OUTFLOWS: usize = 480;
@@ -133,7 +133,7 @@ pub fn put_gammas(rows: [Row; 30], out: &mut [i64; 900])
 // Thirty amounts from place `at` on.
 fn amounts_at(amounts: &[i64], at: usize) -> [i64; 30]
     requires { ⌜ at + 30 ≤ length (now amounts) ⌝ }
-    ensures { λ r. ⌜ r ≡ partOf (now (amounts .entry)) at 30 ⌝ }
+    ensures { λ r. ⌜ r ≡ valuesAt (now (amounts .entry)) at 30 ⌝ }
 {
     let mut part = [0i64; 30];
     copy_i64(amounts, at, &mut part, 0, 30);
@@ -143,7 +143,7 @@ fn amounts_at(amounts: &[i64], at: usize) -> [i64; 30]
 // Thirty rates from place `at` on.
 fn rates_at(rates: &[i32], at: usize) -> [i32; 30]
     requires { ⌜ at + 30 ≤ length (now rates) ⌝ }
-    ensures { λ r. ⌜ r ≡ partOf (now (rates .entry)) at 30 ⌝ }
+    ensures { λ r. ⌜ r ≡ valuesAt (now (rates .entry)) at 30 ⌝ }
 {
     let mut part = [0i32; 30];
     copy_i32(rates, at, &mut part, 0, 30);
@@ -167,7 +167,7 @@ fn instruments_of(amounts: &[i64; 510]) -> [Instrument; 16]
 
 // The rollover.
 fn rollover_of(shares: &[u32; 46]) -> [u32; 30]
-    ensures { λ r. ⌜ r ≡ partOf (now (shares .entry)) 0 30 ⌝ }
+    ensures { λ r. ⌜ r ≡ valuesAt (now (shares .entry)) 0 30 ⌝ }
 {
     let mut part = [0u32; 30];
     copy_u32(shares, 0, &mut part, 0, 30);
@@ -189,7 +189,7 @@ fn patterns_of(rates: &[i32; 1920]) -> [Pattern; 64]
 
 // The allocation.
 fn allocation_of(shares: &[u32; 46]) -> [u32; 16]
-    ensures { λ r. ⌜ r ≡ partOf (now (shares .entry)) allocationFrom 16 ⌝ }
+    ensures { λ r. ⌜ r ≡ valuesAt (now (shares .entry)) allocationFrom 16 ⌝ }
 {
     let mut part = [0u32; 16];
     copy_u32(shares, ALLOCATION, &mut part, 0, 16);

@@ -6,12 +6,12 @@ use native.Mathlib.Omega.{arith}
 use lib.IntN.{ℤ}
 use Rattle.whole.proofs.Filling.{Filling, fill-start, fill-turn, fill-end}
 use Rattle.plan.specs.Held.{noInstrument}
-use Rattle.arrays.specs.Arrays.{partOf, instrumentsOf}
+use Rattle.arrays.specs.Arrays.{valuesAt, instrumentsOf}
 use Rattle.arrays.proofs.instruments_of.Statement.{statement}
 use Rattle.arrays.proofs.instruments_of.Tie as tie
 
 abbrev Inv-loop : tie.InvT-loop
-Inv-loop amounts rows₀ j₀ rows j = Filling 16 16 (λ j. record { payments = partOf amounts (30 * j) 30 }) noInstrument rows j
+Inv-loop amounts rows₀ j₀ rows j = Filling 16 16 (λ j. record { payments = valuesAt amounts (30 * j) 30 }) noInstrument rows j
 
 abbrev μ-loop : tie.MeasureT-loop
 μ-loop amounts rows₀ j₀ rows j = 16 - j

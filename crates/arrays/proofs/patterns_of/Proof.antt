@@ -6,12 +6,12 @@ use native.Mathlib.Omega.{arith}
 use lib.IntN.{ℤ}
 use Rattle.whole.proofs.Filling.{Filling, fill-start, fill-turn, fill-end}
 use Rattle.plan.specs.Held.{noPattern}
-use Rattle.arrays.specs.Arrays.{partOf, patternsOf}
+use Rattle.arrays.specs.Arrays.{valuesAt, patternsOf}
 use Rattle.arrays.proofs.patterns_of.Statement.{statement}
 use Rattle.arrays.proofs.patterns_of.Tie as tie
 
 abbrev Inv-loop : tie.InvT-loop
-Inv-loop rates rows₀ t₀ rows t = Filling 64 64 (λ t. record { rates = partOf rates (30 * t) 30 }) noPattern rows t
+Inv-loop rates rows₀ t₀ rows t = Filling 64 64 (λ t. record { rates = valuesAt rates (30 * t) 30 }) noPattern rows t
 
 abbrev μ-loop : tie.MeasureT-loop
 μ-loop rates rows₀ t₀ rows t = 64 - t
