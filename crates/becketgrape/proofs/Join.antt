@@ -1,5 +1,5 @@
 -- What `planner_read` fills in and `planner_write` takes join: the arrays of a plan that was read hold that plan.
-use mathlib.Core.Path.{_≡_, sym, subst, _∙_}
+use mathlib.Core.Path.{_≡_, sym, subst}
 use mathlib.Core.List.{List}
 use Prim.Native.Nat.{ℕ}
 use lib.IntN.{ℤ}

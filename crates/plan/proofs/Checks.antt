@@ -17,7 +17,7 @@ use Rattle.whole.proofs.Entry.{entry-each}
 use Rattle.whole.proofs.Table.{table-at}
 use Rattle.whole.proofs.Sum.{Σℕ-from}
 use Rattle.whole.proofs.Test.{both-first, both-second, all-yes, all-at, all-cong, between-fact, between-yes, from-low, from-high, from-yes}
-use Rattle.plan.specs.Held.{instrumentHeld, patternHeld, instrumentAt, patternAt, outflowsHeld, held}
+use Rattle.plan.specs.Held.{instrumentHeld, patternHeld, outflowsHeld}
 use Rattle.plan.specs.Numbers.{Numbers, paymentsMeant, ratesMeant, numbers}
 use Rattle.plan.specs.Refusal.{
   check,
@@ -25,7 +25,6 @@ use Rattle.plan.specs.Refusal.{
   answer,
   most,
   top,
-  shapeOk,
   headOk,
   paymentsFit,
   paymentsOk,

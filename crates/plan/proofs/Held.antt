@@ -1,6 +1,5 @@
 -- Where what a plan holds stands in its arrays, and that the plan of what is held holds just that.
-use mathlib.Core.Path.{_≡_, refl, sym, ap, ap₂, _∙_, fun-ext}
-use mathlib.Core.List.{List, []}
+use mathlib.Core.Path.{_≡_, refl, sym, ap, _∙_, fun-ext}
 use Prim.Native.Nat.{ℕ, _+_, _-_, _≤_, _<_}
 use native.Mathlib.Omega.{arith}
 use lib.IntN.{ℤ, pos}
@@ -9,9 +8,6 @@ use Rattle.whole.specs.Entry.{entry}
 use Rattle.whole.specs.Table.{table}
 use Rattle.whole.proofs.Entry.{entry-at, entry-zero, entry-beyond, entry-each, entry-cong, entry-own, entry-none}
 use Rattle.whole.proofs.Table.{table-at}
-use Rattle.plan.specs.declared.Shape.{Shape}
-use Rattle.plan.specs.declared.Instrument.{Instrument}
-use Rattle.plan.specs.declared.Pattern.{Pattern}
 use Rattle.plan.specs.declared.Plan.{Plan}
 use Rattle.plan.specs.Held.{
   HeldInstrument,
@@ -21,7 +17,6 @@ use Rattle.plan.specs.Held.{
   unheldPattern,
   instrumentHeld,
   patternHeld,
-  shapeOf,
   instrumentAt,
   patternAt,
   instrumentsHeld,

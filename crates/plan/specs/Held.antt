@@ -1,6 +1,6 @@
 -- What a plan or a file holds, as it was typed: numbers by document 01's indices, each 0 outside N, n, q and m. `held` says it of a plan
 -- held as values; what an array has past these counts plays no part. `planFrom` is the plan that holds just this, with zeros elsewhere.
-use mathlib.Core.List.{List, []}
+use mathlib.Core.List.{[]}
 use Prim.Native.Nat.{ℕ, _+_, _-_}
 use lib.ListN.{getD, replicate}
 use lib.IntN.{ℤ, pos}

@@ -6,19 +6,19 @@ use Rattle.becketgrape.proofs.OnFile.{file-refused, file-called}
 use Rattle.becketgrape.proofs.bound_of_file.Statement.{statement}
 use Rattle.becketgrape.proofs.bound_of_file.Tie as tie
 
-read-requires : tie.Need-read-requires
-read-requires c κs = search needs
-
 returns : tie.Need-returns
 unfolding boundOfFile
 returns c = file-refused _ noBound (λ P. boundAnswer P (c .before .before .before .args .t)) (c .before .read .ensures .0) (c .if1 .taken)
-
-bound-requires : tie.Need-bound-requires
-bound-requires c κs = search needs
 
 returns-2 : tie.Need-returns-2
 unfolding boundOfFile
 returns-2 c = let s = c .before .before in file-called _ noBound (λ P. boundAnswer P (s .before .before .before .args .t)) (s .before .read .ensures .0) (s .if1 .left) (c .bound .ensures)
 
 pub bound-of-file-spec : {M : Type 1} → statement M
-bound-of-file-spec = tie.close (tie.spec read-requires returns bound-requires returns-2)
+bound-of-file-spec =
+    tie.close
+    (tie.spec
+    (λ c κs. search needs)
+    returns
+    (λ c κs. search needs)
+    returns-2)

@@ -6,19 +6,19 @@ use Rattle.becketgrape.proofs.OnFile.{file-refused, file-called}
 use Rattle.becketgrape.proofs.form_of_file.Statement.{statement}
 use Rattle.becketgrape.proofs.form_of_file.Tie as tie
 
-read-requires : tie.Need-read-requires
-read-requires c κs = search needs
-
 returns : tie.Need-returns
 unfolding formOfFile
 returns c = file-refused _ noForm (λ P. formAnswer P (c .before .before .before .args .t)) (c .before .read .ensures .0) (c .if1 .taken)
-
-form-requires : tie.Need-form-requires
-form-requires c κs = search needs
 
 returns-2 : tie.Need-returns-2
 unfolding formOfFile
 returns-2 c = let s = c .before .before in file-called _ noForm (λ P. formAnswer P (s .before .before .before .args .t)) (s .before .read .ensures .0) (s .if1 .left) (c .form .ensures .0)
 
 pub form-of-file-spec : {M : Type 1} → statement M
-form-of-file-spec = tie.close (tie.spec read-requires returns form-requires returns-2)
+form-of-file-spec =
+    tie.close
+    (tie.spec
+    (λ c κs. search needs)
+    returns
+    (λ c κs. search needs)
+    returns-2)

@@ -6,19 +6,19 @@ use Rattle.becketgrape.proofs.OnFile.{file-refused, file-called}
 use Rattle.becketgrape.proofs.fund_of_file.Statement.{statement}
 use Rattle.becketgrape.proofs.fund_of_file.Tie as tie
 
-read-requires : tie.Need-read-requires
-read-requires c κs = search needs
-
 returns : tie.Need-returns
 unfolding fundOfFile
 returns c = file-refused _ noFund (λ P. fundAnswer P (c .before .before .before .args .t)) (c .before .read .ensures .0) (c .if1 .taken)
-
-fund-requires : tie.Need-fund-requires
-fund-requires c κs = search needs
 
 returns-2 : tie.Need-returns-2
 unfolding fundOfFile
 returns-2 c = let s = c .before .before in file-called _ noFund (λ P. fundAnswer P (s .before .before .before .args .t)) (s .before .read .ensures .0) (s .if1 .left) (c .fund .ensures .0)
 
 pub fund-of-file-spec : {M : Type 1} → statement M
-fund-of-file-spec = tie.close (tie.spec read-requires returns fund-requires returns-2)
+fund-of-file-spec =
+    tie.close
+    (tie.spec
+    (λ c κs. search needs)
+    returns
+    (λ c κs. search needs)
+    returns-2)

@@ -6,19 +6,19 @@ use Rattle.becketgrape.proofs.OnFile.{file-refused, file-called}
 use Rattle.becketgrape.proofs.gammas_of_file.Statement.{statement}
 use Rattle.becketgrape.proofs.gammas_of_file.Tie as tie
 
-read-requires : tie.Need-read-requires
-read-requires c κs = search needs
-
 returns : tie.Need-returns
 unfolding gammasOfFile
 returns c = file-refused _ noGammas (λ P. gammasAnswer P (c .before .before .before .args .t)) (c .before .read .ensures .0) (c .if1 .taken)
-
-gammas-requires : tie.Need-gammas-requires
-gammas-requires c κs = search needs
 
 returns-2 : tie.Need-returns-2
 unfolding gammasOfFile
 returns-2 c = let s = c .before .before in file-called _ noGammas (λ P. gammasAnswer P (s .before .before .before .args .t)) (s .before .read .ensures .0) (s .if1 .left) (c .gammas .ensures)
 
 pub gammas-of-file-spec : {M : Type 1} → statement M
-gammas-of-file-spec = tie.close (tie.spec read-requires returns gammas-requires returns-2)
+gammas-of-file-spec =
+    tie.close
+    (tie.spec
+    (λ c κs. search needs)
+    returns
+    (λ c κs. search needs)
+    returns-2)

@@ -6,9 +6,6 @@ use Rattle.whole.proofs.Range.{back}
 use Rattle.becketgrape.proofs.planner_bound.Statement.{statement}
 use Rattle.becketgrape.proofs.planner_bound.Tie as tie
 
-bound-of-file-requires : tie.Need-bound-of-file-requires
-bound-of-file-requires c κs = search needs
-
 returns : tie.Need-returns
 returns c =
     let d = c .before .bound-of-file in
@@ -16,4 +13,8 @@ returns c =
     simp (back, b) (d .ensures)
 
 pub planner-bound-spec : {M : Type 1} → statement M
-planner-bound-spec = tie.close (tie.spec bound-of-file-requires returns)
+planner-bound-spec =
+    tie.close
+    (tie.spec
+    (λ c κs. search needs)
+    returns)

@@ -9,9 +9,6 @@ use Rattle.becketgrape.proofs.OnFile.{form-near}
 use Rattle.becketgrape.proofs.planner_form.Statement.{statement}
 use Rattle.becketgrape.proofs.planner_form.Tie as tie
 
-form-of-file-requires : tie.Need-form-of-file-requires
-form-of-file-requires c κs = search needs
-
 returns : tie.Need-returns
 returns c =
     let d = c .before .before .before .form-of-file in
@@ -20,4 +17,8 @@ returns c =
     simp (back, q, z) (d .ensures, subst (FormNear _ _) (sym (d .ensures)) (form-near _ _))
 
 pub planner-form-spec : {M : Type 1} → statement M
-planner-form-spec = tie.close (tie.spec form-of-file-requires returns)
+planner-form-spec =
+    tie.close
+    (tie.spec
+    (λ c κs. search needs)
+    returns)

@@ -9,9 +9,6 @@ use Rattle.becketgrape.proofs.OnFile.{fund-near}
 use Rattle.becketgrape.proofs.planner_fund.Statement.{statement}
 use Rattle.becketgrape.proofs.planner_fund.Tie as tie
 
-fund-of-file-requires : tie.Need-fund-of-file-requires
-fund-of-file-requires c κs = search needs
-
 returns : tie.Need-returns
 returns c =
     let d = c .before .fund-of-file in
@@ -19,4 +16,8 @@ returns c =
     simp (back, z) (d .ensures, subst (FundNear _ _) (sym (d .ensures)) (fund-near _ _))
 
 pub planner-fund-spec : {M : Type 1} → statement M
-planner-fund-spec = tie.close (tie.spec fund-of-file-requires returns)
+planner-fund-spec =
+    tie.close
+    (tie.spec
+    (λ c κs. search needs)
+    returns)

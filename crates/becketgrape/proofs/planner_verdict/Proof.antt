@@ -6,13 +6,14 @@ use Rattle.becketgrape.proofs.OnFile.{verdict-true}
 use Rattle.becketgrape.proofs.planner_verdict.Statement.{statement}
 use Rattle.becketgrape.proofs.planner_verdict.Tie as tie
 
-verdict-of-file-requires : tie.Need-verdict-of-file-requires
-verdict-of-file-requires c κs = search needs
-
 returns : tie.Need-returns
 returns c =
     let d = c .before .verdict-of-file in
     (d .ensures, subst (VerdictTrue _) (sym (d .ensures)) (verdict-true _))
 
 pub planner-verdict-spec : {M : Type 1} → statement M
-planner-verdict-spec = tie.close (tie.spec verdict-of-file-requires returns)
+planner-verdict-spec =
+    tie.close
+    (tie.spec
+    (λ c κs. search needs)
+    returns)

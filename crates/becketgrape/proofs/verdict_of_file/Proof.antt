@@ -8,9 +8,6 @@ use Rattle.becketgrape.proofs.OnFile.{file-refused, file-called}
 use Rattle.becketgrape.proofs.verdict_of_file.Statement.{statement}
 use Rattle.becketgrape.proofs.verdict_of_file.Tie as tie
 
-read-requires : tie.Need-read-requires
-read-requires c κs = search needs
-
 returns : tie.Need-returns
 unfolding verdictOfFile
 returns c = file-refused _ noVerdict verdictAnswer (c .before .read .ensures .0) (c .if1 .taken)
@@ -25,4 +22,10 @@ returns-2 c =
     file-called _ noVerdict verdictAnswer (s .before .read .ensures .0) (s .if1 .left) (verdict-judged _ (c .before .judge-accepted .ensures))
 
 pub verdict-of-file-spec : {M : Type 1} → statement M
-verdict-of-file-spec = tie.close (tie.spec read-requires returns judge-accepted-requires returns-2)
+verdict-of-file-spec =
+    tie.close
+    (tie.spec
+    (λ c κs. search needs)
+    returns
+    judge-accepted-requires
+    returns-2)

@@ -10,12 +10,6 @@ use Rattle.listing.proofs.Demands.{demands}
 use Rattle.listing.proofs.list.Statement.{statement}
 use Rattle.listing.proofs.list.Tie as tie
 
-read-requires : tie.Need-read-requires
-read-requires c κs = search needs
-
-put-refused-requires : tie.Need-put-refused-requires
-put-refused-requires c κs = search needs
-
 returns : tie.Need-returns
 returns c =
     let i = c .before .before in
@@ -43,8 +37,7 @@ pub list-spec : {M : Type 1} → statement M
 list-spec =
     tie.close
     (tie.spec
-    read-requires
-    put-refused-requires
+    (λ c κs. search needs) (λ c κs. search needs)
     returns
     judge-accepted-requires
     put-judgement-requires

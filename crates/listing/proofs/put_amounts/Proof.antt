@@ -10,21 +10,6 @@ use Rattle.listing.specs.Text.{field, amountsText}
 use Rattle.listing.proofs.put_amounts.Statement.{statement}
 use Rattle.listing.proofs.put_amounts.Tie as tie
 
-put-field-requires : tie.Need-put-field-requires
-put-field-requires c κs = search needs
-
-put-field-requires-2 : tie.Need-put-field-requires-2
-put-field-requires-2 c κs = search needs
-
-put-fields-requires : tie.Need-put-fields-requires
-put-fields-requires c κs = search needs
-
-put-field-requires-3 : tie.Need-put-field-requires-3
-put-field-requires-3 c κs = search needs
-
-same-length : tie.Need-same-length
-same-length c = search needs
-
 returns : tie.Need-returns
 unfolding amountsText
 returns c =
@@ -48,9 +33,6 @@ pub put-amounts-spec : {M : Type 1} → statement M
 put-amounts-spec =
     tie.close
     (tie.spec
-    put-field-requires
-    put-field-requires-2
-    put-fields-requires
-    put-field-requires-3
-    same-length
+    (λ c κs. search needs) (λ c κs. search needs) (λ c κs. search needs) (λ c κs. search needs)
+    (λ c. search needs)
     returns)

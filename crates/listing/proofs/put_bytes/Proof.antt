@@ -20,20 +20,8 @@ abbrev μ-loop : tie.MeasureT-loop
 loop-holds : tie.Need-loop-holds Inv-loop μ-loop
 loop-holds c = rw add-zero (putting-none (omega arith) refl)
 
-shared-slice-read-b : tie.Need-shared-slice-read-b Inv-loop μ-loop
-shared-slice-read-b c = search needs
-
-add-b : tie.Need-add-b Inv-loop μ-loop
-add-b c = search needs
-
 slice-write-b : tie.Need-slice-write-b Inv-loop μ-loop
 slice-write-b c = omega (arith, c .before .before .loop .inv .length-kept)
-
-add-k : tie.Need-add-k Inv-loop μ-loop
-add-k c = search needs
-
-loop-less : tie.Need-loop-less Inv-loop μ-loop
-loop-less c = omega arith
 
 loop-again : tie.Need-loop-again Inv-loop μ-loop
 loop-again c =
@@ -56,11 +44,9 @@ put-bytes-spec =
     Inv-loop
     μ-loop
     loop-holds
-    shared-slice-read-b
-    add-b
+    (λ c. search needs) (λ c. search needs)
     slice-write-b
-    add-k
-    loop-less
+    (λ c. search needs) (λ c. omega arith)
     loop-again
     add-result
     same-length

@@ -8,19 +8,14 @@ use Rattle.listing.specs.Text.{field}
 use Rattle.listing.proofs.put_field.Statement.{statement}
 use Rattle.listing.proofs.put_field.Tie as tie
 
-put-byte-requires : tie.Need-put-byte-requires
-put-byte-requires c κs = search needs
-
-put-signed-requires : tie.Need-put-signed-requires
-put-signed-requires c κs = search needs
-
-same-length : tie.Need-same-length
-same-length c = search needs
-
 returns : tie.Need-returns
 returns c =
     let s = c .before .before .before .before .before .before in
     (wrote-as (ap field (back (s .before .before .before .fits .z))) (wrote-then (s .put-byte .ensures) (c .before .before .put-signed .ensures .0)), omega arith)
 
 pub put-field-spec : {M : Type 1} → statement M
-put-field-spec = tie.close (tie.spec put-byte-requires put-signed-requires same-length returns)
+put-field-spec =
+    tie.close
+    (tie.spec
+    (λ c κs. search needs) (λ c κs. search needs) (λ c. search needs)
+    returns)

@@ -24,20 +24,8 @@ loop-holds : tie.Need-loop-holds Inv-loop μ-loop
 unfolding fields
 loop-holds c = putting-none (c .before .pre .1) refl
 
-mul-z : tie.Need-mul-z Inv-loop μ-loop
-mul-z c = search needs
-
-array-copy-out-z : tie.Need-array-copy-out-z Inv-loop μ-loop
-array-copy-out-z c = search needs
-
 put-field-requires : tie.Need-put-field-requires Inv-loop μ-loop
 put-field-requires c κs = let d = c .before .before in room-more (d .before .loop .inv) (d .loop-test .taken)
-
-add-k : tie.Need-add-k Inv-loop μ-loop
-add-k c = search needs
-
-loop-less : tie.Need-loop-less Inv-loop μ-loop
-loop-less c = omega arith
 
 loop-again : tie.Need-loop-again Inv-loop μ-loop
 unfolding fields
@@ -60,11 +48,9 @@ put-fields-spec =
     Inv-loop
     μ-loop
     loop-holds
-    mul-z
-    array-copy-out-z
+    (λ c. search needs) (λ c. search needs)
     put-field-requires
-    add-k
-    loop-less
+    (λ c. search needs) (λ c. omega arith)
     loop-again
     same-length
     returns)

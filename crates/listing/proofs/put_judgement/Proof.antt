@@ -8,26 +8,11 @@ use Rattle.listing.specs.Text.{refusedText, judgementText}
 use Rattle.listing.proofs.put_judgement.Statement.{statement}
 use Rattle.listing.proofs.put_judgement.Tie as tie
 
-put-refused-requires : tie.Need-put-refused-requires
-put-refused-requires c κs = search needs
-
-same-length : tie.Need-same-length
-same-length c = search needs
-
 returns : tie.Need-returns
 unfolding judgementText
 returns c =
     let s = c .before .before in
     (wrote-as (sym (answer-refused refusedText _ _ (s .before .before .if1 .taken))) (s .put-refused .ensures .0), omega arith)
-
-put-lines-requires : tie.Need-put-lines-requires
-put-lines-requires c κs = search needs
-
-put-last-requires : tie.Need-put-last-requires
-put-last-requires c κs = search needs
-
-same-length-2 : tie.Need-same-length-2
-same-length-2 c = search needs
 
 returns-2 : tie.Need-returns-2
 unfolding judgementText
@@ -42,10 +27,7 @@ pub put-judgement-spec : {M : Type 1} → statement M
 put-judgement-spec =
     tie.close
     (tie.spec
-    put-refused-requires
-    same-length
+    (λ c κs. search needs) (λ c. search needs)
     returns
-    put-lines-requires
-    put-last-requires
-    same-length-2
+    (λ c κs. search needs) (λ c κs. search needs) (λ c. search needs)
     returns-2)

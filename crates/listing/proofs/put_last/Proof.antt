@@ -8,27 +8,6 @@ use Rattle.listing.specs.Text.{field, lastText}
 use Rattle.listing.proofs.put_last.Statement.{statement}
 use Rattle.listing.proofs.put_last.Tie as tie
 
-put-word-requires : tie.Need-put-word-requires
-put-word-requires c κs = search needs
-
-short-count-requires : tie.Need-short-count-requires
-short-count-requires c κs = search needs
-
-put-field-requires : tie.Need-put-field-requires
-put-field-requires c κs = search needs
-
-lowest-short-requires : tie.Need-lowest-short-requires
-lowest-short-requires c κs = search needs
-
-put-field-requires-2 : tie.Need-put-field-requires-2
-put-field-requires-2 c κs = search needs
-
-put-byte-requires : tie.Need-put-byte-requires
-put-byte-requires c κs = search needs
-
-same-length : tie.Need-same-length
-same-length c = search needs
-
 returns : tie.Need-returns
 unfolding lastText
 returns c =
@@ -47,11 +26,6 @@ pub put-last-spec : {M : Type 1} → statement M
 put-last-spec =
     tie.close
     (tie.spec
-    put-word-requires
-    short-count-requires
-    put-field-requires
-    lowest-short-requires
-    put-field-requires-2
-    put-byte-requires
-    same-length
+    (λ c κs. search needs) (λ c κs. search needs) (λ c κs. search needs) (λ c κs. search needs)
+    (λ c κs. search needs) (λ c κs. search needs) (λ c. search needs)
     returns)

@@ -19,20 +19,8 @@ loop-holds : tie.Need-loop-holds Inv-loop μ-loop
 unfolding linesText
 loop-holds c = putting-none (omega arith) refl
 
-mul-row : tie.Need-mul-row Inv-loop μ-loop
-mul-row c = search needs
-
-array-copy-out-row : tie.Need-array-copy-out-row Inv-loop μ-loop
-array-copy-out-row c = search needs
-
-add-t : tie.Need-add-t Inv-loop μ-loop
-add-t c = search needs
-
 put-line-requires : tie.Need-put-line-requires Inv-loop μ-loop
 put-line-requires c κs = let d = c .before .before in (search needs, room-more (d .before .loop .inv) (d .loop-test .taken))
-
-loop-less : tie.Need-loop-less Inv-loop μ-loop
-loop-less c = omega arith
 
 loop-again : tie.Need-loop-again Inv-loop μ-loop
 unfolding linesText
@@ -54,11 +42,9 @@ put-lines-spec =
     Inv-loop
     μ-loop
     loop-holds
-    mul-row
-    array-copy-out-row
-    add-t
+    (λ c. search needs) (λ c. search needs) (λ c. search needs)
     put-line-requires
-    loop-less
+    (λ c. omega arith)
     loop-again
     same-length
     returns)

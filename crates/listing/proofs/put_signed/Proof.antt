@@ -11,19 +11,10 @@ use Rattle.listing.proofs.put_signed.Tie as tie
 cast-put-digits : tie.Need-cast-put-digits
 cast-put-digits c = same-cast w64 _ (c .before .before .before .fits .z) (c .before .if1 .taken)
 
-put-digits-requires : tie.Need-put-digits-requires
-put-digits-requires c κs = search needs
-
-same-length : tie.Need-same-length
-same-length c = search needs
-
 returns : tie.Need-returns
 returns c =
     let s = c .before .before .before .before in
     (wrote-as (nonneg-text _ (s .before .before .fits .z) (s .if1 .taken)) (c .before .before .put-digits .ensures .0), omega arith)
-
-put-byte-requires : tie.Need-put-byte-requires
-put-byte-requires c κs = search needs
 
 sub-put-digits : tie.Need-sub-put-digits
 sub-put-digits c =
@@ -40,12 +31,6 @@ add-put-digits c =
     let s = c .before .before .before .before .before in
     record { fits = omega (arith, flip-small w64 _ (s .before .before .fits .z) (s .if1 .left)) }
 
-put-digits-requires-2 : tie.Need-put-digits-requires-2
-put-digits-requires-2 c κs = search needs
-
-same-length-2 : tie.Need-same-length-2
-same-length-2 c = search needs
-
 returns-2 : tie.Need-returns-2
 returns-2 c =
     let s = c .before .before .before .before .before .before .before .before in
@@ -56,13 +41,11 @@ put-signed-spec =
     tie.close
     (tie.spec
     cast-put-digits
-    put-digits-requires
-    same-length
+    (λ c κs. search needs) (λ c. search needs)
     returns
-    put-byte-requires
+    (λ c κs. search needs)
     sub-put-digits
     cast-put-digits-2
     add-put-digits
-    put-digits-requires-2
-    same-length-2
+    (λ c κs. search needs) (λ c. search needs)
     returns-2)

@@ -8,40 +8,13 @@ use Rattle.listing.specs.Text.{wordText}
 use Rattle.listing.proofs.put_word.Statement.{statement}
 use Rattle.listing.proofs.put_word.Tie as tie
 
-slice-aggregate-put-bytes : tie.Need-slice-aggregate-put-bytes
-slice-aggregate-put-bytes c = search needs
-
-put-bytes-requires : tie.Need-put-bytes-requires
-put-bytes-requires c κs = search needs
-
-same-length : tie.Need-same-length
-same-length c = search needs
-
 returns : tie.Need-returns
 unfolding wordText
 returns c = (wrote-as (sym (ap wordText (c .before .before .before .before .before .if1 .taken))) (c .before .before .put-bytes .ensures), omega arith)
 
-slice-aggregate-put-bytes-2 : tie.Need-slice-aggregate-put-bytes-2
-slice-aggregate-put-bytes-2 c = search needs
-
-put-bytes-requires-2 : tie.Need-put-bytes-requires-2
-put-bytes-requires-2 c κs = search needs
-
-same-length-2 : tie.Need-same-length-2
-same-length-2 c = search needs
-
 returns-2 : tie.Need-returns-2
 unfolding wordText
 returns-2 c = (wrote-as (sym (ap wordText (c .before .before .before .before .before .if2 .taken))) (c .before .before .put-bytes2 .ensures), omega arith)
-
-slice-aggregate-put-bytes-3 : tie.Need-slice-aggregate-put-bytes-3
-slice-aggregate-put-bytes-3 c = search needs
-
-put-bytes-requires-3 : tie.Need-put-bytes-requires-3
-put-bytes-requires-3 c κs = search needs
-
-same-length-3 : tie.Need-same-length-3
-same-length-3 c = search needs
 
 returns-3 : tie.Need-returns-3
 unfolding wordText
@@ -53,15 +26,9 @@ pub put-word-spec : {M : Type 1} → statement M
 put-word-spec =
     tie.close
     (tie.spec
-    slice-aggregate-put-bytes
-    put-bytes-requires
-    same-length
+    (λ c. search needs) (λ c κs. search needs) (λ c. search needs)
     returns
-    slice-aggregate-put-bytes-2
-    put-bytes-requires-2
-    same-length-2
+    (λ c. search needs) (λ c κs. search needs) (λ c. search needs)
     returns-2
-    slice-aggregate-put-bytes-3
-    put-bytes-requires-3
-    same-length-3
+    (λ c. search needs) (λ c κs. search needs) (λ c. search needs)
     returns-3)

@@ -6,14 +6,12 @@ use Rattle.little_endian.specs.TwosComplement.{signedOf}
 use Rattle.little_endian.proofs.i32_at.Statement.{statement}
 use Rattle.little_endian.proofs.i32_at.Tie as tie
 
-u32-at-requires : tie.Need-u32-at-requires
-u32-at-requires c κs = search needs
-
-signed-32-requires : tie.Need-signed-32-requires
-signed-32-requires c κs = search needs
-
 returns : tie.Need-returns
 returns c = toZ-ofZ (sfits-of (c .signed-32 .ok)) ∙ c .signed-32 .ensures ∙ ap (signedOf 4) (c .before .u32-at .ensures)
 
 pub i32-at-spec : {M : Type 1} → statement M
-i32-at-spec = tie.close (tie.spec u32-at-requires signed-32-requires returns)
+i32-at-spec =
+    tie.close
+    (tie.spec
+    (λ c κs. search needs) (λ c κs. search needs)
+    returns)

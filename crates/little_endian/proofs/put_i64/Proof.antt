@@ -8,15 +8,6 @@ use Rattle.little_endian.specs.TwosComplement.{unsignedOf}
 use Rattle.little_endian.proofs.put_i64.Statement.{statement}
 use Rattle.little_endian.proofs.put_i64.Tie as tie
 
-unsigned-64-requires : tie.Need-unsigned-64-requires
-unsigned-64-requires c κs = search needs
-
-put-u64-requires : tie.Need-put-u64-requires
-put-u64-requires c κs = search needs
-
-same-length : tie.Need-same-length
-same-length c = search needs
-
 returns : tie.Need-returns
 returns c =
     let u = c .before .before .before in
@@ -25,4 +16,8 @@ returns c =
     ∙ ap (stored 8 (now (s .args .b)) (s .args .at)) (u .unsigned-64 .ensures ∙ ap (unsignedOf 8) (toZ-ofZ (s .fits .x)))
 
 pub put-i64-spec : {M : Type 1} → statement M
-put-i64-spec = tie.close (tie.spec unsigned-64-requires put-u64-requires same-length returns)
+put-i64-spec =
+    tie.close
+    (tie.spec
+    (λ c κs. search needs) (λ c κs. search needs) (λ c. search needs)
+    returns)

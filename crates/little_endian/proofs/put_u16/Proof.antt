@@ -8,23 +8,8 @@ use Rattle.little_endian.proofs.LittleEndian.{stored-one, stored-add}
 use Rattle.little_endian.proofs.put_u16.Statement.{statement}
 use Rattle.little_endian.proofs.put_u16.Tie as tie
 
-cast-b : tie.Need-cast-b
-cast-b c = search needs
-
-slice-write-b : tie.Need-slice-write-b
-slice-write-b c = search needs
-
-cast-b-2 : tie.Need-cast-b-2
-cast-b-2 c = search needs
-
-add-b : tie.Need-add-b
-add-b c = search needs
-
 slice-write-b-2 : tie.Need-slice-write-b-2
 slice-write-b-2 c = simp length-set (omega arith)
-
-same-length : tie.Need-same-length
-same-length c = search needs
 
 returns : tie.Need-returns
 returns c =
@@ -35,4 +20,9 @@ returns c =
 
 pub put-u16-spec : {M : Type 1} → statement M
 put-u16-spec =
-    tie.close (tie.spec cast-b slice-write-b cast-b-2 add-b slice-write-b-2 same-length returns)
+    tie.close
+    (tie.spec
+    (λ c. search needs) (λ c. search needs) (λ c. search needs) (λ c. search needs)
+    slice-write-b-2
+    (λ c. search needs)
+    returns)

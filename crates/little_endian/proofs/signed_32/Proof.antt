@@ -8,15 +8,6 @@ use Rattle.little_endian.proofs.TwosComplement.{signed-toZ, signed-fits
 use Rattle.little_endian.proofs.signed_32.Statement.{statement}
 use Rattle.little_endian.proofs.signed_32.Tie as tie
 
-cast-result : tie.Need-cast-result
-cast-result c = search needs
-
-sub-result : tie.Need-sub-result
-sub-result c = search needs
-
-cast-result-2 : tie.Need-cast-result-2
-cast-result-2 c = search needs
-
 sub-result-2 : tie.Need-sub-result-2
 sub-result-2 c = let x = c .before .args .x in rw (flipped w32 x (omega arith) (omega arith)) (signed-fits w32 x (omega arith))
 
@@ -28,4 +19,9 @@ returns-2 c = let x = c .before .args .x in rw (flipped w32 x (omega arith) (ome
 
 pub signed-32-spec : {M : Type 1} → statement M
 signed-32-spec =
-    tie.close (tie.spec cast-result sub-result cast-result-2 sub-result-2 returns returns-2)
+    tie.close
+    (tie.spec
+    (λ c. search needs) (λ c. search needs) (λ c. search needs)
+    sub-result-2
+    returns
+    returns-2)

@@ -18,15 +18,6 @@ module _ (c : tie.After-shared-slice-known2) where
   high : Fits w8 (getD (now (c .before .before .args .s)) (c .before .before .args .at + 1) 0)
   high = c .shared-slice-known2 .given (c .before .before .args .at + 1)
 
-shared-slice-read-low : tie.Need-shared-slice-read-low
-shared-slice-read-low c = search needs
-
-add-high : tie.Need-add-high
-add-high c = search needs
-
-shared-slice-read-high : tie.Need-shared-slice-read-high
-shared-slice-read-high c = search needs
-
 cast-result : tie.Need-cast-result
 cast-result c = omega (arith, low c, high c)
 
@@ -49,9 +40,7 @@ pub u16-at-spec : {M : Type 1} → statement M
 u16-at-spec =
     tie.close
     (tie.spec
-    shared-slice-read-low
-    add-high
-    shared-slice-read-high
+    (λ c. search needs) (λ c. search needs) (λ c. search needs)
     cast-result
     cast-result-2
     mul-result

@@ -1,6 +1,5 @@
 -- `plan::allocation_refusal` is check 9.
-use mathlib.Core.Path.{_≡_, sym, _∙_}
-use borrow.Author.Needs.{needs}
+use mathlib.Core.Path.{sym, _∙_}
 use borrow.Author.Tests.{not-true, not-false}
 use Rattle.plan.specs.Refusal.{allocationRefusal}
 use Rattle.plan.proofs.allocation_refusal.Statement.{statement}

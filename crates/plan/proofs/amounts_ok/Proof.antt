@@ -23,12 +23,6 @@ abbrev μ-loop : tie.MeasureT-loop
 loop-holds : tie.Need-loop-holds Inv-loop μ-loop
 loop-holds c = (search needs, all-none _)
 
-mul-z : tie.Need-mul-z Inv-loop μ-loop
-mul-z c = search needs
-
-shared-slice-copy-out-z : tie.Need-shared-slice-copy-out-z Inv-loop μ-loop
-shared-slice-copy-out-z c = search needs
-
 module _ (c : tie.After-z Inv-loop μ-loop) where
   abbrev start : tie.Start Inv-loop μ-loop
   start = c .before .before .before
@@ -50,12 +44,6 @@ returns-2 c =
     let d = c .before .before in
     let f = amount-fits d in
     sym (all-fails _ _ _ (d .before .loop-test .taken) (between-above _ _ _ (lt-true _ _ (simp (back, f, start d .fits .high) at (c .if2 .taken)))))
-
-add-k : tie.Need-add-k Inv-loop μ-loop
-add-k c = search needs
-
-loop-less : tie.Need-loop-less Inv-loop μ-loop
-loop-less c = search needs
 
 loop-again : tie.Need-loop-again Inv-loop μ-loop
 loop-again c =
@@ -82,11 +70,9 @@ amounts-ok-spec =
     Inv-loop
     μ-loop
     loop-holds
-    mul-z
-    shared-slice-copy-out-z
+    (λ c. search needs) (λ c. search needs)
     returns
     returns-2
-    add-k
-    loop-less
+    (λ c. search needs) (λ c. search needs)
     loop-again
     returns-3)

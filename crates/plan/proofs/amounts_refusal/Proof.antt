@@ -1,7 +1,6 @@
 -- `plan::amounts_refusal` is the first of the checks 6 and 7 that fails.
 use mathlib.Core.Path.{_≡_, sym, _∙_}
 use mathlib.Core.Bool.{true}
-use borrow.Author.Needs.{needs}
 use borrow.Author.Tests.{not-true, not-false}
 use Rattle.plan.specs.Numbers.{numbers}
 use Rattle.plan.specs.Refusal.{paymentsOk, outflowsOk, amountsRefusal}

@@ -7,12 +7,6 @@ use Rattle.plan.specs.Refusal.{shapeOk, headOk, headRefusal}
 use Rattle.plan.proofs.head_refusal.Statement.{statement}
 use Rattle.plan.proofs.head_refusal.Tie as tie
 
-shape-of-requires : tie.Need-shape-of-requires
-shape-of-requires c κs = search needs
-
-shape-ok-requires : tie.Need-shape-ok-requires
-shape-ok-requires c κs = search needs
-
 tested : (c : tie.After-shape-ok) → headOk (numbers (c .before .before .args .plan)) ≡ c .shape-ok .result
 unfolding headOk shapeOk
 tested c = sym (c .shape-ok .ensures ∙ ap shapeOk (c .before .shape-of .ensures))
@@ -26,4 +20,9 @@ unfolding headRefusal
 returns-2 c = rw (tested (c .before) ∙ not-false _ (c .if1 .left))
 
 pub head-refusal-spec : {M : Type 1} → statement M
-head-refusal-spec = tie.close (tie.spec shape-of-requires shape-ok-requires returns returns-2)
+head-refusal-spec =
+    tie.close
+    (tie.spec
+    (λ c κs. search needs) (λ c κs. search needs)
+    returns
+    returns-2)

@@ -1,14 +1,11 @@
 -- `plan::outflows_ok` is the outflows' part of check 6.
-use mathlib.Core.Path.{_≡_, sym, ap, _∙_}
+use mathlib.Core.Path.{_≡_, _∙_}
 use native.Mathlib.Omega.{arith}
 use borrow.Author.Needs.{needs}
 use lib.ListN.{length}
 use Rattle.plan.proofs.Checks.{outflows-ok}
 use Rattle.plan.proofs.outflows_ok.Statement.{statement}
 use Rattle.plan.proofs.outflows_ok.Tie as tie
-
-slice-aggregate-amounts-ok : tie.Need-slice-aggregate-amounts-ok
-slice-aggregate-amounts-ok c = search needs
 
 amounts-ok-requires : tie.Need-amounts-ok-requires
 amounts-ok-requires c κs =
@@ -20,4 +17,9 @@ returns : tie.Need-returns
 returns c = c .amounts-ok .ensures ∙ outflows-ok _
 
 pub outflows-ok-spec : {M : Type 1} → statement M
-outflows-ok-spec = tie.close (tie.spec slice-aggregate-amounts-ok amounts-ok-requires returns)
+outflows-ok-spec =
+    tie.close
+    (tie.spec
+    (λ c. search needs)
+    amounts-ok-requires
+    returns)

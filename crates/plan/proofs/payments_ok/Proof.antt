@@ -1,12 +1,10 @@
 -- `plan::payments_ok` is the test of all payments: those of the instruments before j have passed.
 use mathlib.Core.Path.{_≡_, sym, ap, _∙_}
 use mathlib.Core.Bool.{true}
-use mathlib.Core.List.{List}
 use Prim.Native.Nat.{ℕ, _-_, _≤_}
 use native.Mathlib.Omega.{arith}
 use borrow.Author.Needs.{needs}
 use borrow.Author.Tests.{not-true, not-false}
-use lib.IntN.{ℤ}
 use lib.ListN.{length}
 use Rattle.whole.specs.Test.{all}
 use Rattle.whole.proofs.Table.{length-table}
@@ -24,18 +22,6 @@ abbrev μ-loop : tie.MeasureT-loop
 
 loop-holds : tie.Need-loop-holds Inv-loop μ-loop
 loop-holds c = (search needs, all-none _)
-
-mul-row : tie.Need-mul-row Inv-loop μ-loop
-mul-row c = omega arith
-
-array-copy-out-row : tie.Need-array-copy-out-row Inv-loop μ-loop
-array-copy-out-row c = omega arith
-
-payments-requires : tie.Need-payments-requires Inv-loop μ-loop
-payments-requires c κs = omega arith
-
-slice-aggregate-amounts-ok : tie.Need-slice-aggregate-amounts-ok Inv-loop μ-loop
-slice-aggregate-amounts-ok c = search needs
 
 amounts-ok-requires : tie.Need-amounts-ok-requires Inv-loop μ-loop
 amounts-ok-requires c κs = let l = ap length (c .before .payments .ensures) ∙ length-table 30 _ _ _ (omega arith) in omega arith
@@ -58,12 +44,6 @@ returns c =
     let d = c .before in
     sym (all-fails _ _ (j d) (turn d .loop-test .taken) (sym (tested d) ∙ not-true _ (c .if1 .taken))) ∙ payments-ok (plan d) (turn d .before .before .before .pre .years-few)
 
-add-j : tie.Need-add-j Inv-loop μ-loop
-add-j c = omega arith
-
-loop-less : tie.Need-loop-less Inv-loop μ-loop
-loop-less c = omega arith
-
 loop-again : tie.Need-loop-again Inv-loop μ-loop
 loop-again c =
     let d = c .before in
@@ -82,13 +62,9 @@ payments-ok-spec =
     Inv-loop
     μ-loop
     loop-holds
-    mul-row
-    array-copy-out-row
-    payments-requires
-    slice-aggregate-amounts-ok
+    (λ c. omega arith) (λ c. omega arith) (λ c κs. omega arith) (λ c. search needs)
     amounts-ok-requires
     returns
-    add-j
-    loop-less
+    (λ c. omega arith) (λ c. omega arith)
     loop-again
     returns-2)

@@ -25,32 +25,8 @@ Inv-loop years xs n v₀ l₀ v l = Filling 30 (years - 1) (λ l. getD xs l (pos
 abbrev μ-loop : tie.MeasureT-loop
 μ-loop years xs n v₀ l₀ v l = n - l
 
-sub-n : tie.Need-sub-n Inv-loop μ-loop
-sub-n c = search needs
-
 loop-holds : tie.Need-loop-holds Inv-loop μ-loop
 loop-holds c = fill-start
-
-mul-wide : tie.Need-mul-wide Inv-loop μ-loop
-mul-wide c = omega arith
-
-array-copy-out-wide : tie.Need-array-copy-out-wide Inv-loop μ-loop
-array-copy-out-wide c = omega arith
-
-wide-requires : tie.Need-wide-requires Inv-loop μ-loop
-wide-requires c κs = search needs
-
-mul-v : tie.Need-mul-v Inv-loop μ-loop
-mul-v c = omega arith
-
-array-set-from-v : tie.Need-array-set-from-v Inv-loop μ-loop
-array-set-from-v c = omega arith
-
-add-l : tie.Need-add-l Inv-loop μ-loop
-add-l c = omega arith
-
-loop-less : tie.Need-loop-less Inv-loop μ-loop
-loop-less c = omega arith
 
 loop-again : tie.Need-loop-again Inv-loop μ-loop
 loop-again c =
@@ -72,14 +48,9 @@ rates-spec =
     (tie.spec
     Inv-loop
     μ-loop
-    sub-n
+    (λ c. search needs)
     loop-holds
-    mul-wide
-    array-copy-out-wide
-    wide-requires
-    mul-v
-    array-set-from-v
-    add-l
-    loop-less
+    (λ c. omega arith) (λ c. omega arith) (λ c κs. search needs) (λ c. omega arith) (λ c. omega arith)
+    (λ c. omega arith) (λ c. omega arith)
     loop-again
     returns)

@@ -1,12 +1,10 @@
 -- `plan::rates_ok` is check 8: the rates of the patterns before t have passed.
 use mathlib.Core.Path.{_≡_, sym, ap, _∙_}
 use mathlib.Core.Bool.{true}
-use mathlib.Core.List.{List}
 use Prim.Native.Nat.{ℕ, _-_, _≤_}
 use native.Mathlib.Omega.{arith}
 use borrow.Author.Needs.{needs}
 use borrow.Author.Tests.{not-true, not-false}
-use lib.IntN.{ℤ}
 use lib.ListN.{length}
 use Rattle.whole.specs.Test.{all}
 use Rattle.whole.proofs.Table.{length-table}
@@ -25,20 +23,8 @@ abbrev μ-loop : tie.MeasureT-loop
 loop-holds : tie.Need-loop-holds Inv-loop μ-loop
 loop-holds c = (search needs, all-none _)
 
-mul-row : tie.Need-mul-row Inv-loop μ-loop
-mul-row c = omega arith
-
-array-copy-out-row : tie.Need-array-copy-out-row Inv-loop μ-loop
-array-copy-out-row c = omega arith
-
 rates-requires : tie.Need-rates-requires Inv-loop μ-loop
 rates-requires c κs = (omega arith, omega arith)
-
-slice-aggregate-amounts-ok : tie.Need-slice-aggregate-amounts-ok Inv-loop μ-loop
-slice-aggregate-amounts-ok c = search needs
-
-sub-amounts-ok : tie.Need-sub-amounts-ok Inv-loop μ-loop
-sub-amounts-ok c = omega arith
 
 amounts-ok-requires : tie.Need-amounts-ok-requires Inv-loop μ-loop
 amounts-ok-requires c κs = let l = ap length (c .before .rates .ensures) ∙ length-table 30 _ _ _ (omega arith) in omega arith
@@ -61,12 +47,6 @@ returns c =
     let d = c .before in
     sym (all-fails _ _ (t d) (turn d .loop-test .taken) (sym (tested d) ∙ not-true _ (c .if1 .taken))) ∙ rates-ok (plan d) (turn d .before .before .before .pre .years-few)
 
-add-t : tie.Need-add-t Inv-loop μ-loop
-add-t c = omega arith
-
-loop-less : tie.Need-loop-less Inv-loop μ-loop
-loop-less c = omega arith
-
 loop-again : tie.Need-loop-again Inv-loop μ-loop
 loop-again c =
     let d = c .before in
@@ -85,14 +65,11 @@ rates-ok-spec =
     Inv-loop
     μ-loop
     loop-holds
-    mul-row
-    array-copy-out-row
+    (λ c. omega arith) (λ c. omega arith)
     rates-requires
-    slice-aggregate-amounts-ok
-    sub-amounts-ok
+    (λ c. search needs) (λ c. omega arith)
     amounts-ok-requires
     returns
-    add-t
-    loop-less
+    (λ c. omega arith) (λ c. omega arith)
     loop-again
     returns-2)

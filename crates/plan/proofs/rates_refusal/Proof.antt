@@ -1,6 +1,5 @@
 -- `plan::rates_refusal` is check 8.
-use mathlib.Core.Path.{_≡_, sym, _∙_}
-use borrow.Author.Needs.{needs}
+use mathlib.Core.Path.{sym, _∙_}
 use borrow.Author.Tests.{not-true, not-false}
 use Rattle.plan.specs.Refusal.{ratesRefusal}
 use Rattle.plan.proofs.rates_refusal.Statement.{statement}

@@ -2,13 +2,10 @@
 use mathlib.Core.Path.{_≡_, sym, _∙_}
 use borrow.Author.Needs.{needs}
 use Rattle.plan.specs.Numbers.{numbers}
-use Rattle.plan.specs.Refusal.{headRefusal, amountsRefusal, ratesRefusal, refusalOf, Head}
+use Rattle.plan.specs.Refusal.{headRefusal, amountsRefusal, refusalOf, Head}
 use Rattle.plan.proofs.Checks.{first-some, head-passed}
 use Rattle.plan.proofs.refusal.Statement.{statement}
 use Rattle.plan.proofs.refusal.Tie as tie
-
-head-refusal-requires : tie.Need-head-refusal-requires
-head-refusal-requires c κs = search needs
 
 returns : tie.Need-returns
 unfolding refusalOf
@@ -57,7 +54,7 @@ pub refusal-spec : {M : Type 1} → statement M
 refusal-spec =
     tie.close
     (tie.spec
-    head-refusal-requires
+    (λ c κs. search needs)
     returns
     amounts-refusal-requires
     returns-2

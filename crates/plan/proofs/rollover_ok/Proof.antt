@@ -1,5 +1,5 @@
 -- `plan::rollover_ok` is check 7.
-use mathlib.Core.Path.{_≡_, sym, ap, _∙_}
+use mathlib.Core.Path.{_≡_, ap, _∙_}
 use Prim.Native.Nat.{ℕ}
 use native.Mathlib.Omega.{arith}
 use borrow.Author.Needs.{needs}
@@ -9,9 +9,6 @@ use Rattle.whole.specs.Range.{million}
 use Rattle.plan.proofs.Checks.{rollover-ok}
 use Rattle.plan.proofs.rollover_ok.Statement.{statement}
 use Rattle.plan.proofs.rollover_ok.Tie as tie
-
-slice-aggregate-sum : tie.Need-slice-aggregate-sum
-slice-aggregate-sum c = search needs
 
 sum-requires : tie.Need-sum-requires
 sum-requires c κs =
@@ -23,4 +20,9 @@ returns : tie.Need-returns
 returns c = ap (λ (s : ℕ). eqb s million) (c .sum .ensures) ∙ rollover-ok _
 
 pub rollover-ok-spec : {M : Type 1} → statement M
-rollover-ok-spec = tie.close (tie.spec slice-aggregate-sum sum-requires returns)
+rollover-ok-spec =
+    tie.close
+    (tie.spec
+    (λ c. search needs)
+    sum-requires
+    returns)

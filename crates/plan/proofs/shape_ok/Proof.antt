@@ -8,18 +8,12 @@ use Rattle.plan.specs.Refusal.{shapeOk}
 use Rattle.plan.proofs.shape_ok.Statement.{statement}
 use Rattle.plan.proofs.shape_ok.Tie as tie
 
-is-from-requires : tie.Need-is-from-requires
-is-from-requires c κs = search needs
-
 returns : tie.Need-returns
 unfolding shapeOk
 returns c = rw (sym (c .before .is-from .ensures) ∙ not-true _ (c .if1 .taken))
 
 years : (c : tie.Else1) → isFrom 1 30 (c .before .before .args .shape .years) ≡ true
 years c = sym (c .before .is-from .ensures) ∙ not-false _ (c .if1 .left)
-
-is-from-requires-2 : tie.Need-is-from-requires-2
-is-from-requires-2 c κs = search needs
 
 returns-2 : tie.Need-returns-2
 unfolding shapeOk
@@ -28,17 +22,11 @@ returns-2 c = rw (years (c .before .before), sym (c .before .is-from2 .ensures) 
 instruments : (c : tie.Else2) → isFrom 1 16 (c .before .before .before .before .args .shape .instruments) ≡ true
 instruments c = sym (c .before .is-from2 .ensures) ∙ not-false _ (c .if2 .left)
 
-is-from-requires-3 : tie.Need-is-from-requires-3
-is-from-requires-3 c κs = search needs
-
 returns-3 : tie.Need-returns-3
 unfolding shapeOk
 returns-3 c =
     let e = c .before .before in
     rw (years (e .before .before), instruments e, sym (c .before .is-from3 .ensures) ∙ not-true _ (c .if3 .taken))
-
-is-from-requires-4 : tie.Need-is-from-requires-4
-is-from-requires-4 c κs = search needs
 
 returns-4 : tie.Need-returns-4
 unfolding shapeOk
@@ -51,11 +39,11 @@ pub shape-ok-spec : {M : Type 1} → statement M
 shape-ok-spec =
     tie.close
     (tie.spec
-    is-from-requires
+    (λ c κs. search needs)
     returns
-    is-from-requires-2
+    (λ c κs. search needs)
     returns-2
-    is-from-requires-3
+    (λ c κs. search needs)
     returns-3
-    is-from-requires-4
+    (λ c κs. search needs)
     returns-4)

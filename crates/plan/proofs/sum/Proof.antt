@@ -18,23 +18,11 @@ abbrev μ-loop : tie.MeasureT-loop
 loop-holds : tie.Need-loop-holds Inv-loop μ-loop
 loop-holds c = (search needs, sym (sumℕ-none _), search needs)
 
-mul-total : tie.Need-mul-total Inv-loop μ-loop
-mul-total c = search needs
-
-shared-slice-read-total : tie.Need-shared-slice-read-total Inv-loop μ-loop
-shared-slice-read-total c = search needs
-
 cast-total : tie.Need-cast-total Inv-loop μ-loop
 cast-total c = omega (arith, c .shared-slice-known .given (c .before .before .loop .k))
 
 add-total : tie.Need-add-total Inv-loop μ-loop
 add-total c = omega (arith, c .shared-slice-known .given (c .before .before .loop .k))
-
-add-k : tie.Need-add-k Inv-loop μ-loop
-add-k c = search needs
-
-loop-less : tie.Need-loop-less Inv-loop μ-loop
-loop-less c = search needs
 
 loop-again : tie.Need-loop-again Inv-loop μ-loop
 loop-again c =
@@ -53,11 +41,9 @@ sum-spec =
     Inv-loop
     μ-loop
     loop-holds
-    mul-total
-    shared-slice-read-total
+    (λ c. search needs) (λ c. search needs)
     cast-total
     add-total
-    add-k
-    loop-less
+    (λ c. search needs) (λ c. search needs)
     loop-again
     returns)

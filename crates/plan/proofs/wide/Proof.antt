@@ -1,10 +1,8 @@
 -- `plan::wide`: a signed number of 32 bits fits a signed word of 64.
-use mathlib.Core.Path.{sym}
 use native.Mathlib.Omega.{arith}
 use mir.Facts.{toZ-ofZ}
 use mir.Syntax.{w64}
 use mir.Val.{SFits}
-use lib.IntN.{ℤ}
 use Rattle.whole.proofs.Range.{back, ok64}
 use Rattle.plan.proofs.wide.Statement.{statement}
 use Rattle.plan.proofs.wide.Tie as tie

@@ -15,32 +15,17 @@ Inv-loop groups sum₀ g₀ sum g = (g ≤ groupCount) × (length groups ≡ gro
 abbrev μ-loop : tie.MeasureT-loop
 μ-loop groups sum₀ g₀ sum g = groupCount - g
 
-groups-of-requires : tie.Need-groups-of-requires Inv-loop μ-loop
-groups-of-requires c κs = search needs
-
 loop-holds : tie.Need-loop-holds Inv-loop μ-loop
 loop-holds c =
     let e = c .groups-of .ensures in
     let h = c .before .args .shape in
     (omega arith, ap length e ∙ length-groups h, omega (arith, ap total e, total-few h (c .before .pre)), omega arith)
 
-mul-group : tie.Need-mul-group Inv-loop μ-loop
-mul-group c = omega arith
-
-array-copy-out-group : tie.Need-array-copy-out-group Inv-loop μ-loop
-array-copy-out-group c = omega arith
-
 add-sum : tie.Need-add-sum Inv-loop μ-loop
 add-sum c =
     let l = c .before .before .before .loop in
     let gs = c .before .before .before .before .groups-of .result in
     omega (arith, l .inv .2, l .inv .3, total-rest gs (record { role = 0; count = 0 }) (l .g) (omega (arith, l .inv .1)))
-
-add-g : tie.Need-add-g Inv-loop μ-loop
-add-g c = omega arith
-
-loop-less : tie.Need-loop-less Inv-loop μ-loop
-loop-less c = omega arith
 
 loop-again : tie.Need-loop-again Inv-loop μ-loop
 loop-again c =
@@ -61,12 +46,10 @@ count-spec =
     (tie.spec
     Inv-loop
     μ-loop
-    groups-of-requires
+    (λ c κs. search needs)
     loop-holds
-    mul-group
-    array-copy-out-group
+    (λ c. omega arith) (λ c. omega arith)
     add-sum
-    add-g
-    loop-less
+    (λ c. omega arith) (λ c. omega arith)
     loop-again
     returns)

@@ -8,24 +8,6 @@ use Rattle.planfile.proofs.Kind.{past}
 use Rattle.planfile.proofs.size_of.Statement.{statement}
 use Rattle.planfile.proofs.size_of.Tie as tie
 
-mul-result : tie.Need-mul-result
-mul-result c = search needs
-
-mul-result-2 : tie.Need-mul-result-2
-mul-result-2 c = search needs
-
-mul-result-3 : tie.Need-mul-result-3
-mul-result-3 c = search needs
-
-sub-result : tie.Need-sub-result
-sub-result c = search needs
-
-mul-result-4 : tie.Need-mul-result-4
-mul-result-4 c = search needs
-
-mul-result-5 : tie.Need-mul-result-5
-mul-result-5 c = search needs
-
 returns : tie.Need-returns
 unfolding sizeOf nth
 returns c = rw (c .match .keys1)
@@ -62,12 +44,8 @@ pub size-of-spec : {M : Type 1} → statement M
 size-of-spec =
     tie.close
     (tie.spec
-    mul-result
-    mul-result-2
-    mul-result-3
-    sub-result
-    mul-result-4
-    mul-result-5
+    (λ c. search needs) (λ c. search needs) (λ c. search needs) (λ c. search needs) (λ c. search needs)
+    (λ c. search needs)
     returns
     returns-2
     returns-3

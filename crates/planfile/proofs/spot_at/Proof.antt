@@ -17,29 +17,14 @@ Inv-loop t groups left₀ g₀ left g = (g ≤ groupCount) × (length groups ≡
 abbrev μ-loop : tie.MeasureT-loop
 μ-loop t groups left₀ g₀ left g = groupCount - g
 
-groups-of-requires : tie.Need-groups-of-requires Inv-loop μ-loop
-groups-of-requires c κs = search needs
-
 loop-holds : tie.Need-loop-holds Inv-loop μ-loop
 loop-holds c = (omega arith, ap length (c .groups-of .ensures) ∙ length-groups (c .before .args .shape), refl)
-
-mul-group : tie.Need-mul-group Inv-loop μ-loop
-mul-group c = omega arith
-
-array-copy-out-group : tie.Need-array-copy-out-group Inv-loop μ-loop
-array-copy-out-group c = omega arith
 
 returns : tie.Need-returns Inv-loop μ-loop
 returns c =
     let l = c .before .before .before .loop in
     let g = c .before .before .before .before .groups-of in
     sym (ap (λ (gs : List Group). spotAt gs (c .before .before .before .before .before .args .t)) (sym (g .ensures)) ∙ l .inv .2 ∙ spot-first (g .result) _ (l .g) (omega (arith, l .inv .1)) (l .left) (c .if1 .taken))
-
-add-g : tie.Need-add-g Inv-loop μ-loop
-add-g c = omega arith
-
-loop-less : tie.Need-loop-less Inv-loop μ-loop
-loop-less c = omega arith
 
 loop-again : tie.Need-loop-again Inv-loop μ-loop
 loop-again c =
@@ -59,12 +44,10 @@ spot-at-spec =
     (tie.spec
     Inv-loop
     μ-loop
-    groups-of-requires
+    (λ c κs. search needs)
     loop-holds
-    mul-group
-    array-copy-out-group
+    (λ c. omega arith) (λ c. omega arith)
     returns
-    add-g
-    loop-less
+    (λ c. omega arith) (λ c. omega arith)
     loop-again
     returns-2)

@@ -14,9 +14,6 @@ use Rattle.planner.proofs.Answers.{Called, called, out-refused, out-acc
 use Rattle.planner.proofs.bound.Statement.{statement}
 use Rattle.planner.proofs.bound.Tie as tie
 
-call-refusal-requires : tie.Need-call-refusal-requires
-call-refusal-requires c κs = search needs
-
 returns : tie.Need-returns
 unfolding boundAnswer
 returns c = out-refused noBound _ (c .before .call-refusal .ensures) (c .if1 .taken)
@@ -46,4 +43,10 @@ returns-2 c =
 
 pub bound-spec : {M : Type 1} → statement M
 bound-spec =
-    tie.close (tie.spec call-refusal-requires returns rates-of-requires bound-requires returns-2)
+    tie.close
+    (tie.spec
+    (λ c κs. search needs)
+    returns
+    rates-of-requires
+    bound-requires
+    returns-2)

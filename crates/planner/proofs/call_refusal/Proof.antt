@@ -8,9 +8,6 @@ use Rattle.planner.proofs.Answers.{refused-plan, refused-pattern, refus
 use Rattle.planner.proofs.call_refusal.Statement.{statement}
 use Rattle.planner.proofs.call_refusal.Tie as tie
 
-refusal-requires : tie.Need-refusal-requires
-refusal-requires c κs = search needs
-
 returns : tie.Need-returns
 returns c = refused-plan _ _ (c .before .refusal .ensures) (c .if1 .taken)
 
@@ -28,4 +25,11 @@ returns-4 : tie.Need-returns-4
 returns-4 c = refused-none _ _ (none (c .before .before)) (from-yes _ _ _ (c .before .if2 .left) (c .if3 .left))
 
 pub call-refusal-spec : {M : Type 1} → statement M
-call-refusal-spec = tie.close (tie.spec refusal-requires returns returns-2 returns-3 returns-4)
+call-refusal-spec =
+    tie.close
+    (tie.spec
+    (λ c κs. search needs)
+    returns
+    returns-2
+    returns-3
+    returns-4)

@@ -57,9 +57,6 @@ array-set-from-k c = j-few (c .before .before .before .before .before .before)
 add-j : tie.Need-add-j Inv-loop μ-loop
 add-j c = omega (arith, j-few (c .before .before .before .before .before .before))
 
-loop-less : tie.Need-loop-less Inv-loop μ-loop
-loop-less c = omega arith
-
 loop-again : tie.Need-loop-again Inv-loop μ-loop
 loop-again c =
     let o = c .before .before in
@@ -84,6 +81,6 @@ coefficients-of-spec =
     mul-k
     array-set-from-k
     add-j
-    loop-less
+    (λ c. omega arith)
     loop-again
     returns-2)

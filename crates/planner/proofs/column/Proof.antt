@@ -41,12 +41,6 @@ mul-v-3 c = omega (arith, j-few (c .before))
 array-set-from-v : tie.Need-array-set-from-v Inv-loop μ-loop
 array-set-from-v c = j-few (c .before)
 
-add-j : tie.Need-add-j Inv-loop μ-loop
-add-j c = omega arith
-
-loop-less : tie.Need-loop-less Inv-loop μ-loop
-loop-less c = omega arith
-
 loop-again : tie.Need-loop-again Inv-loop μ-loop
 loop-again c =
     let t = c .before in
@@ -70,7 +64,6 @@ column-spec =
     index-2-v
     mul-v-3
     array-set-from-v
-    add-j
-    loop-less
+    (λ c. omega arith) (λ c. omega arith)
     loop-again
     returns)

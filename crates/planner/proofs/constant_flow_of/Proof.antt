@@ -23,12 +23,6 @@ abbrev μ-loop : tie.MeasureT-loop
 loop-holds : tie.Need-loop-holds Inv-loop μ-loop
 loop-holds c = fill-start
 
-mul-v : tie.Need-mul-v Inv-loop μ-loop
-mul-v c = omega arith
-
-array-copy-out-v : tie.Need-array-copy-out-v Inv-loop μ-loop
-array-copy-out-v c = omega arith
-
 -- the outflow of a year
 module _ (c : tie.After-v Inv-loop μ-loop) where
   abbrev start : tie.Start Inv-loop μ-loop
@@ -45,18 +39,6 @@ module _ (c : tie.After-v Inv-loop μ-loop) where
 
 sub-v : tie.Need-sub-v Inv-loop μ-loop
 sub-v c = simp (back, o-fits c) (year-fits c)
-
-mul-v-2 : tie.Need-mul-v-2 Inv-loop μ-loop
-mul-v-2 c = omega arith
-
-array-set-from-v : tie.Need-array-set-from-v Inv-loop μ-loop
-array-set-from-v c = omega arith
-
-add-k : tie.Need-add-k Inv-loop μ-loop
-add-k c = omega arith
-
-loop-less : tie.Need-loop-less Inv-loop μ-loop
-loop-less c = omega arith
 
 loop-again : tie.Need-loop-again Inv-loop μ-loop
 loop-again c =
@@ -76,12 +58,8 @@ constant-flow-of-spec =
     Inv-loop
     μ-loop
     loop-holds
-    mul-v
-    array-copy-out-v
+    (λ c. omega arith) (λ c. omega arith)
     sub-v
-    mul-v-2
-    array-set-from-v
-    add-k
-    loop-less
+    (λ c. omega arith) (λ c. omega arith) (λ c. omega arith) (λ c. omega arith)
     loop-again
     returns)

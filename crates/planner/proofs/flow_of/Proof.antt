@@ -99,9 +99,6 @@ array-set-from-v c = k-few (t c)
 add-k : tie.Need-add-k Inv-loop μ-loop
 add-k c = omega (arith, k-few (t c))
 
-loop-less : tie.Need-loop-less Inv-loop μ-loop
-loop-less c = omega arith
-
 loop-again : tie.Need-loop-again Inv-loop μ-loop
 loop-again c =
     simp (back, z-fits c, constant-fits c, year-fits c)
@@ -129,6 +126,6 @@ flow-of-spec =
     mul-v-2
     array-set-from-v
     add-k
-    loop-less
+    (λ c. omega arith)
     loop-again
     returns)

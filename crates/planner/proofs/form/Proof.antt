@@ -9,12 +9,6 @@ use Rattle.planner.proofs.Demand3.{form-answered}
 use Rattle.planner.proofs.form.Statement.{statement}
 use Rattle.planner.proofs.form.Tie as tie
 
-call-refusal-requires : tie.Need-call-refusal-requires
-call-refusal-requires c κs = search needs
-
-no-form-requires : tie.Need-no-form-requires
-no-form-requires c κs = search needs
-
 returns : tie.Need-returns
 unfolding formAnswer
 returns c = form-answered _ _ (c .no-form .ensures ∙ out-refused noForm _ (c .before .before .call-refusal .ensures) (c .before .if1 .taken))
@@ -60,8 +54,7 @@ pub form-spec : {M : Type 1} → statement M
 form-spec =
     tie.close
     (tie.spec
-    call-refusal-requires
-    no-form-requires
+    (λ c κs. search needs) (λ c κs. search needs)
     returns
     common-of-requires
     payments-of-requires

@@ -19,17 +19,11 @@ use Rattle.planner.proofs.form_at.Tie as tie
 coefficients-of-requires : tie.Need-coefficients-of-requires
 coefficients-of-requires c κs = c .pre
 
-no-form-requires : tie.Need-no-form-requires
-no-form-requires c κs = search needs
-
 returns : tie.Need-returns
 returns c = c .no-form .ensures ∙ form-unmade _ _ (c .before .before .coefficients-of .ensures) (c .before .if1 .taken)
 
 constant-at-requires : tie.Need-constant-at-requires
 constant-at-requires c κs = let s = c .before .before .pre in (ready (s .0) (s .1), (s .0 .constant, s .0 .years))
-
-no-form-requires-2 : tie.Need-no-form-requires-2
-no-form-requires-2 c κs = search needs
 
 -- the coefficients and the constant
 module _ (c : tie.After-constant-at) where
@@ -96,10 +90,10 @@ form-at-spec =
     tie.close
     (tie.spec
     coefficients-of-requires
-    no-form-requires
+    (λ c κs. search needs)
     returns
     constant-at-requires
-    no-form-requires-2
+    (λ c κs. search needs)
     returns-2
     weighted-requires
     down-requires

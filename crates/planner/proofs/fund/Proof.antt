@@ -10,9 +10,6 @@ use Rattle.planner.proofs.Demand3.{fund-answered}
 use Rattle.planner.proofs.fund.Statement.{statement}
 use Rattle.planner.proofs.fund.Tie as tie
 
-call-refusal-requires : tie.Need-call-refusal-requires
-call-refusal-requires c κs = search needs
-
 returns : tie.Need-returns
 unfolding fundAnswer
 returns c = fund-answered _ _ (out-refused noFund _ (c .before .call-refusal .ensures) (c .if1 .taken))
@@ -70,7 +67,7 @@ pub fund-spec : {M : Type 1} → statement M
 fund-spec =
     tie.close
     (tie.spec
-    call-refusal-requires
+    (λ c κs. search needs)
     returns
     common-of-requires
     payments-of-requires

@@ -11,9 +11,6 @@ use Rattle.planner.proofs.Answers.{Called, called, out-refused, out-acc
 use Rattle.planner.proofs.gammas.Statement.{statement}
 use Rattle.planner.proofs.gammas.Tie as tie
 
-call-refusal-requires : tie.Need-call-refusal-requires
-call-refusal-requires c κs = search needs
-
 returns : tie.Need-returns
 unfolding gammasAnswer
 returns c = out-refused noGammas _ (c .before .call-refusal .ensures) (c .if1 .taken)
@@ -57,7 +54,7 @@ pub gammas-spec : {M : Type 1} → statement M
 gammas-spec =
     tie.close
     (tie.spec
-    call-refusal-requires
+    (λ c κs. search needs)
     returns
     common-of-requires
     rates-of-requires

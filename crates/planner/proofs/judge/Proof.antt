@@ -6,12 +6,6 @@ use Rattle.planner.proofs.VerdictLaws.{plan-refuses, judge-refused}
 use Rattle.planner.proofs.judge.Statement.{statement}
 use Rattle.planner.proofs.judge.Tie as tie
 
-refusal-requires : tie.Need-refusal-requires
-refusal-requires c κs = search needs
-
-no-judgement-requires : tie.Need-no-judgement-requires
-no-judgement-requires c κs = search needs
-
 returns : tie.Need-returns
 returns c = let taken = c .before .if1 .taken in c .no-judgement .ensures ∙ judge-refused _ (plan-refuses _ (c .before .before .refusal .ensures) taken) taken
 
@@ -22,4 +16,10 @@ returns-2 : tie.Need-returns-2
 returns-2 c = c .judge-accepted .ensures
 
 pub judge-spec : {M : Type 1} → statement M
-judge-spec = tie.close (tie.spec refusal-requires no-judgement-requires returns judge-accepted-requires returns-2)
+judge-spec =
+    tie.close
+    (tie.spec
+    (λ c κs. search needs) (λ c κs. search needs)
+    returns
+    judge-accepted-requires
+    returns-2)

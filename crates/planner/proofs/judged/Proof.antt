@@ -45,9 +45,6 @@ module _ (s : tie.Start Inv-loop μ-loop) where
 flow-of-requires : tie.Need-flow-of-requires Inv-loop μ-loop
 flow-of-requires c κs = let p = c .before .pre in prepared-is _ (p .0) (p .1 .0) (p .1 .1)
 
-no-pattern-row-requires : tie.Need-no-pattern-row-requires Inv-loop μ-loop
-no-pattern-row-requires c κs = search needs
-
 loop-holds : tie.Need-loop-holds Inv-loop μ-loop
 loop-holds c = rw (c .no-pattern-row .ensures) rows-start
 
@@ -94,9 +91,6 @@ module _ (c : tie.After-row-at Inv-loop μ-loop) where
       let s = start turn .args in
       c .row-at .ensures ∙ ap (λ (i : List ℤ). rowReckoned (sharedIn (s .common) (s .payments .now)) (ratesOf i)) (rated .rates .ensures)
 
-no-judgement-requires : tie.Need-no-judgement-requires Inv-loop μ-loop
-no-judgement-requires c κs = search needs
-
 returns : tie.Need-returns Inv-loop μ-loop
 returns c =
     let r = c .before .before in
@@ -142,13 +136,13 @@ judged-spec =
     Inv-loop
     μ-loop
     flow-of-requires
-    no-pattern-row-requires
+    (λ c κs. search needs)
     loop-holds
     mul-one
     array-copy-out-one
     rates-requires
     row-at-requires
-    no-judgement-requires
+    (λ c κs. search needs)
     returns
     array-write-words
     mul-rows

@@ -28,12 +28,6 @@ array-read-if2 c = omega (arith, c .before .before .before .pre)
 returns-2 : tie.Need-returns-2 Inv-loop μ-loop
 returns-2 c = close-found _ (wordsIn (c .before .before .before .before)) (c .before .before .before .if1 .left) (c .before .loop-test .taken) (c .if2 .taken)
 
-add-t : tie.Need-add-t Inv-loop μ-loop
-add-t c = omega arith
-
-loop-less : tie.Need-loop-less Inv-loop μ-loop
-loop-less c = omega arith
-
 loop-again : tie.Need-loop-again Inv-loop μ-loop
 loop-again c = solvents-turn _ _ (c .before .loop-test .taken) (c .before .before .loop .inv) (c .if2 .left)
 
@@ -50,7 +44,6 @@ plan-word-spec =
     loop-holds
     array-read-if2
     returns-2
-    add-t
-    loop-less
+    (λ c. omega arith) (λ c. omega arith)
     loop-again
     returns-3)

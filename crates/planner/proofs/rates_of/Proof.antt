@@ -8,18 +8,6 @@ use Rattle.planner.proofs.Held.{rates-array}
 use Rattle.planner.proofs.rates_of.Statement.{statement}
 use Rattle.planner.proofs.rates_of.Tie as tie
 
-sub-at : tie.Need-sub-at
-sub-at c = search needs
-
-mul-row : tie.Need-mul-row
-mul-row c = search needs
-
-array-copy-out-row : tie.Need-array-copy-out-row
-array-copy-out-row c = search needs
-
-rates-requires : tie.Need-rates-requires
-rates-requires c κs = search needs
-
 returns : tie.Need-returns
 returns c =
     let s = c .before .before .before in
@@ -29,4 +17,7 @@ returns c =
 
 pub rates-of-spec : {M : Type 1} → statement M
 rates-of-spec =
-    tie.close (tie.spec sub-at mul-row array-copy-out-row rates-requires returns)
+    tie.close
+    (tie.spec
+    (λ c. search needs) (λ c. search needs) (λ c. search needs) (λ c κs. search needs)
+    returns)

@@ -3,11 +3,12 @@ use borrow.Author.Needs.{needs}
 use Rattle.planner.proofs.refused_row.Statement.{statement}
 use Rattle.planner.proofs.refused_row.Tie as tie
 
-no-pattern-row-requires : tie.Need-no-pattern-row-requires
-no-pattern-row-requires c κs = search needs
-
 returns : tie.Need-returns
 returns c = rw (c .no-pattern-row .ensures)
 
 pub refused-row-spec : {M : Type 1} → statement M
-refused-row-spec = tie.close (tie.spec no-pattern-row-requires returns)
+refused-row-spec =
+    tie.close
+    (tie.spec
+    (λ c κs. search needs)
+    returns)

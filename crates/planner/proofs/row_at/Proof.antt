@@ -20,9 +20,6 @@ S s = sharedIn (s .args .common) (s .args .payments .now)
 fund-at-requires : tie.Need-fund-at-requires
 fund-at-requires c κs = let p = c .pre in (ready (p .0) (p .1 .1), (flow-amounts (p .0) (p .1 .0), p .0 .years))
 
-refused-row-requires : tie.Need-refused-row-requires
-refused-row-requires c κs = search needs
-
 -- the fund
 fund-is : (c : tie.After-fund-at) → c .fund-at .result ≡ flowReckoned (S (c .before)) (ratesOf (c .before .args .i .now))
 fund-is c = let p = c .before .pre in c .fund-at .ensures .0 ∙ flow-reckoned (p .0) (p .1 .0) _
@@ -33,9 +30,6 @@ returns c = c .refused-row .ensures ∙ row-unfunded _ _ (fund-is (c .before .be
 coefficients-of-requires : tie.Need-coefficients-of-requires
 coefficients-of-requires c κs = let p = c .before .before .pre in (p .0, p .1 .1)
 
-refused-row-requires-2 : tie.Need-refused-row-requires-2
-refused-row-requires-2 c κs = search needs
-
 returns-2 : tie.Need-returns-2
 returns-2 c =
     let k = c .before .before in
@@ -43,9 +37,6 @@ returns-2 c =
 
 constant-at-requires : tie.Need-constant-at-requires
 constant-at-requires c κs = let p = c .before .before .before .before .pre in (ready (p .0) (p .1 .1), (p .0 .constant, p .0 .years))
-
-refused-row-requires-3 : tie.Need-refused-row-requires-3
-refused-row-requires-3 c κs = search needs
 
 -- the constant, after the coefficients and the fund
 module _ (c : tie.After-constant-at) where
@@ -62,9 +53,6 @@ returns-3 c =
 
 bound-requires : tie.Need-bound-requires
 bound-requires c κs = let p = funded (c .before .before) .before .pre in (p .1 .1, p .0 .years)
-
-word-of-requires : tie.Need-word-of-requires
-word-of-requires c κs = search needs
 
 -- the numbers of the row
 module _ (c : tie.After-word-of) where
@@ -96,14 +84,14 @@ row-at-spec =
     tie.close
     (tie.spec
     fund-at-requires
-    refused-row-requires
+    (λ c κs. search needs)
     returns
     coefficients-of-requires
-    refused-row-requires-2
+    (λ c κs. search needs)
     returns-2
     constant-at-requires
-    refused-row-requires-3
+    (λ c κs. search needs)
     returns-3
     bound-requires
-    word-of-requires
+    (λ c κs. search needs)
     returns-4)

@@ -19,14 +19,8 @@ abbrev μ-loop : tie.MeasureT-loop
 loop-holds : tie.Need-loop-holds Inv-loop μ-loop
 loop-holds c = gather-start
 
-sub-t : tie.Need-sub-t Inv-loop μ-loop
-sub-t c = search needs
-
 array-read-short-bit : tie.Need-array-read-short-bit Inv-loop μ-loop
 array-read-short-bit c = omega (arith, c .before .loop .inv .upto)
-
-short-bit-requires : tie.Need-short-bit-requires Inv-loop μ-loop
-short-bit-requires c κs = search needs
 
 -- there is room for one more bit
 room : (c : tie.After-short-bit Inv-loop μ-loop) → c .before .before .loop .bits < 2 ^ 63
@@ -39,9 +33,6 @@ add-bits : tie.Need-add-bits Inv-loop μ-loop
 add-bits c =
     let t = c .before .before in
     record { fits = omega (arith, room c, c .short-bit .ensures, bit-le (eqb (getD (t .before .args .t1) (t .loop .t - 1) 0) short)) }
-
-loop-less : tie.Need-loop-less Inv-loop μ-loop
-loop-less c = omega arith
 
 loop-again : tie.Need-loop-again Inv-loop μ-loop
 loop-again c = gather-turn (c .before .loop-test .taken) (c .before .before .loop .inv) (c .short-bit .ensures)
@@ -56,11 +47,11 @@ short-bits-spec =
     Inv-loop
     μ-loop
     loop-holds
-    sub-t
+    (λ c. search needs)
     array-read-short-bit
-    short-bit-requires
+    (λ c κs. search needs)
     mul-bits
     add-bits
-    loop-less
+    (λ c. omega arith)
     loop-again
     returns)

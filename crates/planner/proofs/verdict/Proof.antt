@@ -5,11 +5,12 @@ use Rattle.planner.proofs.Demand3.{verdict-answered}
 use Rattle.planner.proofs.verdict.Statement.{statement}
 use Rattle.planner.proofs.verdict.Tie as tie
 
-judge-requires : tie.Need-judge-requires
-judge-requires c κs = search needs
-
 returns : tie.Need-returns
 returns c = verdict-answered _ (verdict-judged _ (c .before .judge .ensures))
 
 pub verdict-spec : {M : Type 1} → statement M
-verdict-spec = tie.close (tie.spec judge-requires returns)
+verdict-spec =
+    tie.close
+    (tie.spec
+    (λ c κs. search needs)
+    returns)

@@ -29,9 +29,6 @@ mul-wide c = omega (arith, j-few c)
 array-read-wide : tie.Need-array-read-wide Inv-loop μ-loop
 array-read-wide c = j-few c
 
-wide-requires : tie.Need-wide-requires Inv-loop μ-loop
-wide-requires c κs = search needs
-
 mul-s : tie.Need-mul-s Inv-loop μ-loop
 mul-s c = omega (arith, j-few (c .before))
 
@@ -64,12 +61,6 @@ mul-s-2 c = simp (back, p-fits c, x-fits c) (z-fits c)
 add-s : tie.Need-add-s Inv-loop μ-loop
 add-s c = simp (back, p-fits c, x-fits c, z-fits c) (s-fits c)
 
-add-j : tie.Need-add-j Inv-loop μ-loop
-add-j c = omega arith
-
-loop-less : tie.Need-loop-less Inv-loop μ-loop
-loop-less c = omega arith
-
 loop-again : tie.Need-loop-again Inv-loop μ-loop
 loop-again c =
     simp (back, p-fits c, x-fits c, z-fits c, s-fits c)
@@ -87,12 +78,11 @@ weighted-spec =
     loop-holds
     mul-wide
     array-read-wide
-    wide-requires
+    (λ c κs. search needs)
     mul-s
     array-copy-out-s
     mul-s-2
     add-s
-    add-j
-    loop-less
+    (λ c. omega arith) (λ c. omega arith)
     loop-again
     returns)

@@ -4,11 +4,12 @@ use Rattle.whole.proofs.Range.{whole64, pos64}
 use Rattle.planner.proofs.wide.Statement.{statement}
 use Rattle.planner.proofs.wide.Tie as tie
 
-cast-result : tie.Need-cast-result
-cast-result c = search needs
-
 returns : tie.Need-returns
 returns c = pos64 (omega (whole64, c .fits .x))
 
 pub wide-spec : {M : Type 1} → statement M
-wide-spec = tie.close (tie.spec cast-result returns)
+wide-spec =
+    tie.close
+    (tie.spec
+    (λ c. search needs)
+    returns)

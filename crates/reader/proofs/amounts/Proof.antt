@@ -20,24 +20,6 @@ abbrev μ-loop : tie.MeasureT-loop
 loop-holds : tie.Need-loop-holds Inv-loop μ-loop
 loop-holds c = fill-start
 
-mul-i64-at : tie.Need-mul-i64-at Inv-loop μ-loop
-mul-i64-at c = omega arith
-
-i64-at-requires : tie.Need-i64-at-requires Inv-loop μ-loop
-i64-at-requires c κs = omega arith
-
-mul-amounts : tie.Need-mul-amounts Inv-loop μ-loop
-mul-amounts c = omega arith
-
-array-set-from-amounts : tie.Need-array-set-from-amounts Inv-loop μ-loop
-array-set-from-amounts c = omega arith
-
-add-k : tie.Need-add-k Inv-loop μ-loop
-add-k c = omega arith
-
-loop-less : tie.Need-loop-less Inv-loop μ-loop
-loop-less c = omega arith
-
 loop-again : tie.Need-loop-again Inv-loop μ-loop
 unfolding numberAt
 loop-again c =
@@ -54,11 +36,7 @@ amounts-spec =
     Inv-loop
     μ-loop
     loop-holds
-    mul-i64-at
-    i64-at-requires
-    mul-amounts
-    array-set-from-amounts
-    add-k
-    loop-less
+    (λ c. omega arith) (λ c κs. omega arith) (λ c. omega arith) (λ c. omega arith) (λ c. omega arith)
+    (λ c. omega arith)
     loop-again
     returns)

@@ -14,12 +14,6 @@ use Rattle.planfile.proofs.Checks.{first-found, first-missing}
 use Rattle.reader.proofs.first_ok.Statement.{statement}
 use Rattle.reader.proofs.first_ok.Tie as tie
 
-record-at-requires : tie.Need-record-at-requires
-record-at-requires c κs = search needs
-
-enum-known-next : tie.Need-enum-known-next
-enum-known-next c = search needs
-
 -- the record that was found
 module _ (c : tie.After-known-told) where
   abbrev s : List ℕ
@@ -42,12 +36,6 @@ returns-2 c =
 shape-in-requires : tie.Need-shape-in-requires
 shape-in-requires c κs = let d = c .before .before in omega (arith, next-known (s d) 0 _ _ _ (found d))
 
-shape-ok-requires : tie.Need-shape-ok-requires
-shape-ok-requires c κs = search needs
-
-enum-told : tie.Need-enum-told
-enum-told c = search needs
-
 returns-3 : tie.Need-returns-3
 returns-3 c =
     let e = c .before .before in
@@ -62,13 +50,11 @@ pub first-ok-spec : {M : Type 1} → statement M
 first-ok-spec =
     tie.close
     (tie.spec
-    record-at-requires
-    enum-known-next
+    (λ c κs. search needs) (λ c. search needs)
     returns
     sub-if2
     returns-2
     shape-in-requires
-    shape-ok-requires
-    enum-told
+    (λ c κs. search needs) (λ c. search needs)
     returns-3
     returns-4)

@@ -26,16 +26,11 @@ returns c = rw (lt-leb (length (now (c .before .before .args .file))) 16_384 (om
 short : (c : tie.Else1) → leb (length (now (c .before .before .args .file))) 16_384 ≡ true
 short c = le-leb (length (now (c .before .before .args .file))) 16_384 (omega arith)
 
-whole-file-requires : tie.Need-whole-file-requires
-whole-file-requires c κs = search needs
-
 returns-2 : tie.Need-returns-2
 unfolding layoutRefusal
 returns-2 c = rw (short (c .before .before), sym (c .before .whole-file .ensures) ∙ not-true _ (c .if2 .taken))
 
 -- ---- check 3
-first-ok-requires : tie.Need-first-ok-requires
-first-ok-requires c κs = search needs
 
 module _ (c : tie.After-first-ok) where
   abbrev s : List ℕ
@@ -100,9 +95,9 @@ layout-refusal-spec =
     tie.close
     (tie.spec
     returns
-    whole-file-requires
+    (λ c κs. search needs)
     returns-2
-    first-ok-requires
+    (λ c κs. search needs)
     returns-3
     shape-in-requires
     roles-ok-requires

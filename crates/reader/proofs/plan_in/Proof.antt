@@ -34,18 +34,9 @@ abbrev μ-loop : tie.MeasureT-loop
 count-requires : tie.Need-count-requires Inv-loop μ-loop
 count-requires c κs = c .before .pre .range
 
-no-plan-requires : tie.Need-no-plan-requires Inv-loop μ-loop
-no-plan-requires c κs = search needs
-
 loop-holds : tie.Need-loop-holds Inv-loop μ-loop
 unfolding place
 loop-holds c = (omega arith, refl, c .no-plan .ensures ∙ after-none _ _)
-
-record-at-requires : tie.Need-record-at-requires Inv-loop μ-loop
-record-at-requires c κs = search needs
-
-enum-known-next : tie.Need-enum-known-next Inv-loop μ-loop
-enum-known-next c = search needs
 
 -- ---- the record that was found
 module _ (c : tie.After-known-told Inv-loop μ-loop) where
@@ -75,9 +66,6 @@ module _ (c : tie.After-known-told Inv-loop μ-loop) where
 
 body-at-requires : tie.Need-body-at-requires Inv-loop μ-loop
 body-at-requires c κs = record { ordered = omega (arith, known c); fits = known c .fits }
-
-spot-at-requires : tie.Need-spot-at-requires Inv-loop μ-loop
-spot-at-requires c κs = search needs
 
 -- ---- its body, and its role
 module _ (c : tie.After-spot-at Inv-loop μ-loop) where
@@ -127,9 +115,6 @@ amounts-requires-2 : tie.Need-amounts-requires-2 Inv-loop μ-loop
 unfolding sizeOf nth
 amounts-requires-2 c κs = let r = range (c .before) in let size = sized (c .before) (c .match2 .keys4) in (omega arith, omega arith)
 
-slice-aggregate-shares : tie.Need-slice-aggregate-shares Inv-loop μ-loop
-slice-aggregate-shares c = search needs
-
 shares-requires : tie.Need-shares-requires Inv-loop μ-loop
 unfolding sizeOf nth
 shares-requires c κs = let r = range (c .before .before) in let size = sized (c .before .before) (c .before .match2 .keys5) in (omega arith, (omega arith, refl))
@@ -147,15 +132,9 @@ mul-t29 c = omega (arith, pattern-few (c .before .before .before) (c .before .be
 element-set-from-plan-2 : tie.Need-element-set-from-plan-2 Inv-loop μ-loop
 element-set-from-plan-2 c = pattern-few (c .before .before .before) (c .before .before .match2 .keys6)
 
-slice-aggregate-shares-2 : tie.Need-slice-aggregate-shares-2 Inv-loop μ-loop
-slice-aggregate-shares-2 c = search needs
-
 shares-requires-2 : tie.Need-shares-requires-2 Inv-loop μ-loop
 unfolding sizeOf nth
 shares-requires-2 c κs = let r = range (c .before .before) in let size = sized (c .before .before) (c .before .match2 .keys7) in (omega arith, (omega arith, refl))
-
-enum-told : tie.Need-enum-told Inv-loop μ-loop
-enum-told c = search needs
 
 returns : tie.Need-returns Inv-loop μ-loop
 returns c =
@@ -182,12 +161,6 @@ put c =
     (λ u. absurd (none b refl (nth-outside 0 roles _ (λ l. past 7 (u .0 .rest)))))))))))
     (c .match2 .came)
 
-add-t : tie.Need-add-t Inv-loop μ-loop
-add-t c = search needs
-
-loop-less : tie.Need-loop-less Inv-loop μ-loop
-loop-less c = omega arith
-
 loop-again : tie.Need-loop-again Inv-loop μ-loop
 loop-again c = let r = d (c .before) in (omega arith, place-next (s r) (t r) _ _ _ (found r), put c)
 
@@ -206,27 +179,25 @@ plan-in-spec =
     Inv-loop
     μ-loop
     count-requires
-    no-plan-requires
+    (λ c κs. search needs)
     loop-holds
-    record-at-requires
-    enum-known-next
+    (λ c κs. search needs) (λ c. search needs)
     body-at-requires
-    spot-at-requires
+    (λ c κs. search needs)
     amounts-requires
     mul-t21
     element-set-from-plan
     amounts-requires-2
-    slice-aggregate-shares
+    (λ c. search needs)
     shares-requires
     sub-rates
     rates-requires
     mul-t29
     element-set-from-plan-2
-    slice-aggregate-shares-2
+    (λ c. search needs)
     shares-requires-2
-    enum-told
+    (λ c. search needs)
     returns
-    add-t
-    loop-less
+    (λ c. search needs) (λ c. omega arith)
     loop-again
     returns-2)

@@ -20,24 +20,6 @@ abbrev μ-loop : tie.MeasureT-loop
 loop-holds : tie.Need-loop-holds Inv-loop μ-loop
 loop-holds c = fill-start
 
-mul-i32-at : tie.Need-mul-i32-at Inv-loop μ-loop
-mul-i32-at c = omega arith
-
-i32-at-requires : tie.Need-i32-at-requires Inv-loop μ-loop
-i32-at-requires c κs = omega arith
-
-mul-rates : tie.Need-mul-rates Inv-loop μ-loop
-mul-rates c = omega arith
-
-array-set-from-rates : tie.Need-array-set-from-rates Inv-loop μ-loop
-array-set-from-rates c = omega arith
-
-add-k : tie.Need-add-k Inv-loop μ-loop
-add-k c = omega arith
-
-loop-less : tie.Need-loop-less Inv-loop μ-loop
-loop-less c = omega arith
-
 loop-again : tie.Need-loop-again Inv-loop μ-loop
 unfolding numberAt
 loop-again c =
@@ -54,11 +36,7 @@ rates-spec =
     Inv-loop
     μ-loop
     loop-holds
-    mul-i32-at
-    i32-at-requires
-    mul-rates
-    array-set-from-rates
-    add-k
-    loop-less
+    (λ c. omega arith) (λ c κs. omega arith) (λ c. omega arith) (λ c. omega arith) (λ c. omega arith)
+    (λ c. omega arith)
     loop-again
     returns)

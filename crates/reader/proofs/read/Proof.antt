@@ -23,12 +23,7 @@ told : (c : tie.After-shared-slice-known) {a : ReadAnswer} → a ≡ readAnswer 
     → (a ≡ readAnswer (now (c .before .args .file))) × (a .refusal ≡ 0 → OneFile (now (c .before .args .file)) (a .plan))
 told c is = (is, file-read (bytes-lent (c .shared-slice-known .given)) is)
 
-layout-refusal-requires : tie.Need-layout-refusal-requires
-layout-refusal-requires c κs = search needs
-
 -- ---- a refusal by the records
-refused-requires : tie.Need-refused-requires
-refused-requires c κs = search needs
 
 returns : tie.Need-returns
 returns c = told (c .before .before .before) (c .refused .ensures ∙ refused-layout _ (c .before .before .layout-refusal .ensures) (c .before .if1 .taken))
@@ -47,9 +42,6 @@ shape-in-requires c κs = first-long _ (layout-first _ (none c))
 plan-in-requires : tie.Need-plan-in-requires
 plan-in-requires c κs = rw (c .shape-in .ensures) (layout-laid _ (none (c .before)))
 
-refusal-requires : tie.Need-refusal-requires
-refusal-requires c κs = search needs
-
 -- ---- a refusal by the plan, or none
 module _ (c : tie.After-refusal) where
   abbrev else1 : tie.Else1
@@ -58,9 +50,6 @@ module _ (c : tie.After-refusal) where
   plan-is : c .before .plan-in .result ≡ planFrom (heldIn (s else1))
   unfolding heldIn
   plan-is = c .before .plan-in .ensures ∙ ap (λ (h : Shape). planFrom (heldOf h (recordIn (s else1) h))) (c .before .before .shape-in .ensures)
-
-refused-requires-2 : tie.Need-refused-requires-2
-refused-requires-2 c κs = search needs
 
 returns-2 : tie.Need-returns-2
 returns-2 c =
@@ -76,12 +65,10 @@ pub read-spec : {M : Type 1} → statement M
 read-spec =
     tie.close
     (tie.spec
-    layout-refusal-requires
-    refused-requires
+    (λ c κs. search needs) (λ c κs. search needs)
     returns
     shape-in-requires
     plan-in-requires
-    refusal-requires
-    refused-requires-2
+    (λ c κs. search needs) (λ c κs. search needs)
     returns-2
     returns-3)

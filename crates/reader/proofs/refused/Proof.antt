@@ -3,11 +3,12 @@ use borrow.Author.Needs.{needs}
 use Rattle.reader.proofs.refused.Statement.{statement}
 use Rattle.reader.proofs.refused.Tie as tie
 
-no-plan-requires : tie.Need-no-plan-requires
-no-plan-requires c κs = search needs
-
 returns : tie.Need-returns
 returns c = cc
 
 pub refused-spec : {M : Type 1} → statement M
-refused-spec = tie.close (tie.spec no-plan-requires returns)
+refused-spec =
+    tie.close
+    (tie.spec
+    (λ c κs. search needs)
+    returns)

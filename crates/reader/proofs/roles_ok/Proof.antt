@@ -27,18 +27,9 @@ Inv-loop file shape count at₀ t₀ at t = (t ≤ total (groupsOf shape)) × (a
 abbrev μ-loop : tie.MeasureT-loop
 μ-loop file shape count at₀ t₀ at t = total (groupsOf shape) - t
 
-count-requires : tie.Need-count-requires Inv-loop μ-loop
-count-requires c κs = search needs
-
 loop-holds : tie.Need-loop-holds Inv-loop μ-loop
 unfolding place
 loop-holds c = (omega arith, refl, all-none _)
-
-record-at-requires : tie.Need-record-at-requires Inv-loop μ-loop
-record-at-requires c κs = search needs
-
-enum-known-next : tie.Need-enum-known-next Inv-loop μ-loop
-enum-known-next c = search needs
 
 -- the record that was found
 module _ (c : tie.After-known-told Inv-loop μ-loop) where
@@ -60,12 +51,6 @@ module _ (c : tie.After-known-told Inv-loop μ-loop) where
   found : nextAt s (place s t) ≡ Record (c .before .next .given .0 .0) (c .before .next .given .0 .1 .0) (c .before .next .given .0 .1 .1 .0)
   found = reached s t (turn .loop .inv .1) (c .before .before .before .record-at .ensures) (c .before .next .given .1)
 
-spot-at-requires : tie.Need-spot-at-requires Inv-loop μ-loop
-spot-at-requires c κs = search needs
-
-role-of-requires : tie.Need-role-of-requires Inv-loop μ-loop
-role-of-requires c κs = search needs
-
 -- its role, and that of its spot
 module _ (c : tie.After-role-of Inv-loop μ-loop) where
   abbrev d : tie.After-known-told Inv-loop μ-loop
@@ -77,9 +62,6 @@ module _ (c : tie.After-role-of Inv-loop μ-loop) where
 returns : tie.Need-returns Inv-loop μ-loop
 returns c = let b = c .before .before in sym (roles-fail (s (d b)) (gs (d b)) (t (d b)) (omega arith) (tested b ∙ ne-eqb _ _ (c .if1 .taken)))
 
-enum-told : tie.Need-enum-told Inv-loop μ-loop
-enum-told c = search needs
-
 returns-2 : tie.Need-returns-2 Inv-loop μ-loop
 returns-2 c =
     let turn = c .before .before .before .before in
@@ -88,12 +70,6 @@ returns-2 c =
     let gs = groupsOf (a .shape) in
     let missed = reached s (turn .loop .t) (turn .loop .inv .1) (c .before .before .record-at .ensures) (c .enum-told .given .1) in
     sym (roles-fail s gs (turn .loop .t) (omega arith) (role-missing s gs (turn .loop .t) _ missed))
-
-add-t : tie.Need-add-t Inv-loop μ-loop
-add-t c = omega arith
-
-loop-less : tie.Need-loop-less Inv-loop μ-loop
-loop-less c = omega arith
 
 loop-again : tie.Need-loop-again Inv-loop μ-loop
 loop-again c =
@@ -112,16 +88,12 @@ roles-ok-spec =
     (tie.spec
     Inv-loop
     μ-loop
-    count-requires
+    (λ c κs. search needs)
     loop-holds
-    record-at-requires
-    enum-known-next
-    spot-at-requires
-    role-of-requires
+    (λ c κs. search needs) (λ c. search needs) (λ c κs. search needs) (λ c κs. search needs)
     returns
-    enum-told
+    (λ c. search needs)
     returns-2
-    add-t
-    loop-less
+    (λ c. omega arith) (λ c. omega arith)
     loop-again
     returns-3)

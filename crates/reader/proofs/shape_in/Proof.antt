@@ -11,9 +11,6 @@ use Rattle.planfile.specs.Checks.{shapeIn}
 use Rattle.reader.proofs.shape_in.Statement.{statement}
 use Rattle.reader.proofs.shape_in.Tie as tie
 
-body-at-requires : tie.Need-body-at-requires
-body-at-requires c κs = search needs
-
 -- the body's length, and its byte k
 module _ (c : tie.After-body-at) where
   abbrev file : List ℕ
@@ -57,7 +54,7 @@ pub shape-in-spec : {M : Type 1} → statement M
 shape-in-spec =
     tie.close
     (tie.spec
-    body-at-requires
+    (λ c κs. search needs)
     shared-slice-read-years
     cast-years
     shared-slice-read-instruments

@@ -18,24 +18,6 @@ abbrev μ-loop : tie.MeasureT-loop
 loop-holds : tie.Need-loop-holds Inv-loop μ-loop
 loop-holds c = (refl, record { upto = omega arith; is = c .before .before .pre .1 .1 ∙ sym (table-none _ _ _) })
 
-mul-u32-at : tie.Need-mul-u32-at Inv-loop μ-loop
-mul-u32-at c = omega arith
-
-u32-at-requires : tie.Need-u32-at-requires Inv-loop μ-loop
-u32-at-requires c κs = omega arith
-
-mul-out : tie.Need-mul-out Inv-loop μ-loop
-mul-out c = omega arith
-
-slice-write-out : tie.Need-slice-write-out Inv-loop μ-loop
-slice-write-out c = omega arith
-
-add-k : tie.Need-add-k Inv-loop μ-loop
-add-k c = omega arith
-
-loop-less : tie.Need-loop-less Inv-loop μ-loop
-loop-less c = omega arith
-
 loop-again : tie.Need-loop-again Inv-loop μ-loop
 unfolding numberAt
 loop-again c =
@@ -55,12 +37,8 @@ shares-spec =
     Inv-loop
     μ-loop
     loop-holds
-    mul-u32-at
-    u32-at-requires
-    mul-out
-    slice-write-out
-    add-k
-    loop-less
+    (λ c. omega arith) (λ c κs. omega arith) (λ c. omega arith) (λ c. omega arith) (λ c. omega arith)
+    (λ c. omega arith)
     loop-again
     same-length
     returns)

@@ -24,18 +24,9 @@ Inv-loop file shape count at₀ t₀ at t = (t ≤ total (groupsOf shape)) × (a
 abbrev μ-loop : tie.MeasureT-loop
 μ-loop file shape count at₀ t₀ at t = total (groupsOf shape) - t
 
-count-requires : tie.Need-count-requires Inv-loop μ-loop
-count-requires c κs = search needs
-
 loop-holds : tie.Need-loop-holds Inv-loop μ-loop
 unfolding place
 loop-holds c = (omega arith, refl, all-none _)
-
-record-at-requires : tie.Need-record-at-requires Inv-loop μ-loop
-record-at-requires c κs = search needs
-
-enum-known-next : tie.Need-enum-known-next Inv-loop μ-loop
-enum-known-next c = search needs
 
 -- the record that was found
 module _ (c : tie.After-known-told Inv-loop μ-loop) where
@@ -67,9 +58,6 @@ returns c =
     let tested = size-found (s d) (first d .args .shape) (t d) _ _ _ (found d) in
     sym (all-fails _ _ (t d) (omega arith) (tested ∙ ne-eqb _ _ (λ e. c .if1 .taken (e ∙ sym (c .before .size-of .ensures)))))
 
-enum-told : tie.Need-enum-told Inv-loop μ-loop
-enum-told c = search needs
-
 returns-2 : tie.Need-returns-2 Inv-loop μ-loop
 returns-2 c =
     let turn = c .before .before .before .before in
@@ -77,12 +65,6 @@ returns-2 c =
     let s = now (first .args .file) in
     let missed = reached s (turn .loop .t) (turn .loop .inv .1) (c .before .before .record-at .ensures) (c .enum-told .given .1) in
     absurd (none-missing s (groupsOf (first .args .shape)) (first .pre .1) (turn .loop .t) _ (omega arith) missed)
-
-add-t : tie.Need-add-t Inv-loop μ-loop
-add-t c = search needs
-
-loop-less : tie.Need-loop-less Inv-loop μ-loop
-loop-less c = omega arith
 
 loop-again : tie.Need-loop-again Inv-loop μ-loop
 loop-again c =
@@ -103,16 +85,14 @@ sizes-ok-spec =
     (tie.spec
     Inv-loop
     μ-loop
-    count-requires
+    (λ c κs. search needs)
     loop-holds
-    record-at-requires
-    enum-known-next
+    (λ c κs. search needs) (λ c. search needs)
     sub-if1
     size-of-requires
     returns
-    enum-told
+    (λ c. search needs)
     returns-2
-    add-t
-    loop-less
+    (λ c. search needs) (λ c. omega arith)
     loop-again
     returns-3)

@@ -21,12 +21,6 @@ abbrev μ-loop : tie.MeasureT-loop
 loop-holds : tie.Need-loop-holds Inv-loop μ-loop
 loop-holds c = rest-all (now (c .before .args .file))
 
-record-at-requires : tie.Need-record-at-requires Inv-loop μ-loop
-record-at-requires c κs = search needs
-
-enum-known-next : tie.Need-enum-known-next Inv-loop μ-loop
-enum-known-next c = search needs
-
 -- a turn, from the record that was found
 module _ (c : tie.After-known-told Inv-loop μ-loop) where
   abbrev s : List ℕ
@@ -44,9 +38,6 @@ loop-less c = omega (arith, found c .end, found c .fits)
 loop-again : tie.Need-loop-again Inv-loop μ-loop
 loop-again c = rw (found c .end) (c .before .before .before .before .loop .inv ∙ rest-next (s c) (at c) (omega (arith, found c .end, found c .fits)) (found c .whole))
 
-enum-known-next-2 : tie.Need-enum-known-next-2 Inv-loop μ-loop
-enum-known-next-2 c = search needs
-
 returns : tie.Need-returns Inv-loop μ-loop
 returns c =
     let turn = c .before .before .before .before in
@@ -60,9 +51,8 @@ whole-file-spec =
     Inv-loop
     μ-loop
     loop-holds
-    record-at-requires
-    enum-known-next
+    (λ c κs. search needs) (λ c. search needs)
     loop-less
     loop-again
-    enum-known-next-2
+    (λ c. search needs)
     returns)

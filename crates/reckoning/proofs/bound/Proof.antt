@@ -21,12 +21,6 @@ Inv-loop i n h g₀ k₀ k-end g k = Growing (toZ w64 h) n (toZ w64 g) k
 abbrev μ-loop : tie.MeasureT-loop
 μ-loop i n h g₀ k₀ k-end g k = n + 2 - k
 
-largest-requires : tie.Need-largest-requires Inv-loop μ-loop
-largest-requires c κs = search needs
-
-add-k-end : tie.Need-add-k-end Inv-loop μ-loop
-add-k-end c = omega arith
-
 -- the largest rate
 module _ (c : tie.After-largest Inv-loop μ-loop) where
   abbrev most : ℕ
@@ -61,12 +55,6 @@ add-down c = rw (most-is (c .before .before)) (simp (back, product-fits (c .befo
 down-requires : tie.Need-down-requires Inv-loop μ-loop
 down-requires c κs = rw (most-is (c .before .before)) (simp (back, product-fits (c .before), asked-fits (c .before)) (asked-within (grown (c .before))))
 
-mul-g : tie.Need-mul-g Inv-loop μ-loop
-mul-g c = omega arith
-
-sub-g : tie.Need-sub-g Inv-loop μ-loop
-sub-g c = omega arith
-
 cast-g : tie.Need-cast-g Inv-loop μ-loop
 cast-g c = omega whole64
 
@@ -95,12 +83,6 @@ add-g c = simp (back, down-fits c, pos64 (cast-g c)) (added-fits c)
 add-g-2 : tie.Need-add-g-2 Inv-loop μ-loop
 add-g-2 c = simp (back, down-fits c, pos64 (cast-g c), added-fits c) (next-fits c)
 
-add-k : tie.Need-add-k Inv-loop μ-loop
-add-k c = omega arith
-
-loop-less : tie.Need-loop-less Inv-loop μ-loop
-loop-less c = omega arith
-
 loop-again : tie.Need-loop-again Inv-loop μ-loop
 loop-again c = rw (most-is (c .before .before .before)) (simp (back, down-fits c, pos64 (cast-g c), added-fits c, next-fits c) (turned c))
 
@@ -127,19 +109,16 @@ bound-spec =
     (tie.spec
     Inv-loop
     μ-loop
-    largest-requires
-    add-k-end
+    (λ c κs. search needs) (λ c. omega arith)
     loop-holds
     mul-down
     add-down
     down-requires
-    mul-g
-    sub-g
+    (λ c. omega arith) (λ c. omega arith)
     cast-g
     add-g
     add-g-2
-    add-k
-    loop-less
+    (λ c. omega arith) (λ c. omega arith)
     loop-again
     cast-result
     add-result

@@ -20,9 +20,6 @@ Inv-loop flow r w i v j q from s₀ l₀ s l = Adding r w i v j (toZ w64 s₀) (
 abbrev μ-loop : tie.MeasureT-loop
 μ-loop flow r w i v j q from s₀ l₀ s l = j - l
 
-first-requires : tie.Need-first-requires Inv-loop μ-loop
-first-requires c κs = search needs
-
 mul-s : tie.Need-mul-s Inv-loop μ-loop
 mul-s c = omega (arith, c .before .pre .1 .1 .few)
 
@@ -38,12 +35,6 @@ loop-holds c =
     simp (back, flow-fits s)
     (subst (λ (l : ℕ). Adding (s .args .r .now) (s .args .w .now) (s .args .i .now) (s .args .v .now) (s .args .j) (getD (s .args .flow .now) (s .args .j) (pos 0)) (getD (s .args .flow .now) (s .args .j) (pos 0)) l) (sym (c .before .first .ensures))
     (add-start (s .pre .0) (s .pre .1 .0) (s .pre .1 .1)))
-
-sub-years : tie.Need-sub-years Inv-loop μ-loop
-sub-years c = omega arith
-
-sub-d : tie.Need-sub-d Inv-loop μ-loop
-sub-d c = omega arith
 
 -- in the loop: the cell at l, and what stands between it and j
 module _ (c : tie.In-loop Inv-loop μ-loop) where
@@ -157,12 +148,11 @@ cell-spec =
     (tie.spec
     Inv-loop
     μ-loop
-    first-requires
+    (λ c κs. search needs)
     mul-s
     element-copy-out-s
     loop-holds
-    sub-years
-    sub-d
+    (λ c. omega arith) (λ c. omega arith)
     mul-sent
     element-copy-out-sent
     mul-sent-2

@@ -45,9 +45,6 @@ loop-holds c = fill-start _ _ _ (c .pre .1 .1)
 cell-requires : tie.Need-cell-requires Inv-loop μ-loop
 cell-requires c κs = let s = c .before .before .before in (s .pre .0, (s .pre .1 .0, fill-before _ _ _ (s .pre .1 .1) (c .before .loop-test .taken) (c .before .before .loop .inv)))
 
-fits-requires : tie.Need-fits-requires Inv-loop μ-loop
-fits-requires c κs = search needs
-
 -- the test of the next cell
 module _ (c : tie.After-fits2 Inv-loop μ-loop) where
   abbrev turn : tie.In-loop Inv-loop μ-loop
@@ -76,12 +73,6 @@ mul-v c = omega (arith, j-few (c .before))
 array-set-from-v : tie.Need-array-set-from-v Inv-loop μ-loop
 array-set-from-v c = j-few (c .before)
 
-add-j : tie.Need-add-j Inv-loop μ-loop
-add-j c = omega arith
-
-loop-less : tie.Need-loop-less Inv-loop μ-loop
-loop-less c = omega arith
-
 loop-again : tie.Need-loop-again Inv-loop μ-loop
 loop-again c =
     let o = c .before in
@@ -93,9 +84,6 @@ filled c = fill-end _ _ _ (c .before .before .pre .1 .1) (c .loop-test .left) (c
 
 total-requires : tie.Need-total-requires Inv-loop μ-loop
 total-requires c κs = let s = c .before .before .before in held (s .pre .0) _ (s .pre .1 .1) (filled (c .before))
-
-fits-requires-2 : tie.Need-fits-requires-2 Inv-loop μ-loop
-fits-requires-2 c κs = search needs
 
 -- the total is the fund, and its test
 module _ (c : tie.After-fits3 Inv-loop μ-loop) where
@@ -134,14 +122,13 @@ fund-spec =
     μ-loop
     loop-holds
     cell-requires
-    fits-requires
+    (λ c κs. search needs)
     returns
     mul-v
     array-set-from-v
-    add-j
-    loop-less
+    (λ c. omega arith) (λ c. omega arith)
     loop-again
     total-requires
-    fits-requires-2
+    (λ c κs. search needs)
     returns-2
     returns-3)

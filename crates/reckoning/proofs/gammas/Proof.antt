@@ -20,25 +20,10 @@ loop-holds c = fill-start _ _ _
 next-row-requires : tie.Need-next-row-requires Inv-loop μ-loop
 next-row-requires c κs = let p = c .before .before .pre in (p .0, (p .1, rows-before _ _ _ _ _ (c .before .loop .inv) (c .loop-test .taken)))
 
-row-fits-requires : tie.Need-row-fits-requires Inv-loop μ-loop
-row-fits-requires c κs = omega arith
-
 returns : tie.Need-returns Inv-loop μ-loop
 returns c =
     let d = c .before in
     fill-fails _ _ _ _ _ (d .before .before .before .loop .inv) (d .before .before .before .before .pre .1 .few) (d .before .before .loop-test .taken) _ (d .before .next-row .ensures) (sym (d .row-fits .ensures) ∙ not-true _ (c .if1 .taken))
-
-mul-rows : tie.Need-mul-rows Inv-loop μ-loop
-mul-rows c = omega arith
-
-array-set-from-rows : tie.Need-array-set-from-rows Inv-loop μ-loop
-array-set-from-rows c = omega arith
-
-add-j : tie.Need-add-j Inv-loop μ-loop
-add-j c = omega arith
-
-loop-less : tie.Need-loop-less Inv-loop μ-loop
-loop-less c = omega arith
 
 loop-again : tie.Need-loop-again Inv-loop μ-loop
 loop-again c =
@@ -56,11 +41,8 @@ gammas-spec =
     μ-loop
     loop-holds
     next-row-requires
-    row-fits-requires
+    (λ c κs. omega arith)
     returns
-    mul-rows
-    array-set-from-rows
-    add-j
-    loop-less
+    (λ c. omega arith) (λ c. omega arith) (λ c. omega arith) (λ c. omega arith)
     loop-again
     returns-2)

@@ -21,18 +21,6 @@ abbrev μ-loop : tie.MeasureT-loop
 loop-holds : tie.Need-loop-holds Inv-loop μ-loop
 loop-holds c = join-start _ _ _ _ _ _
 
-mul-v : tie.Need-mul-v Inv-loop μ-loop
-mul-v c = omega arith
-
-array-copy-out-v : tie.Need-array-copy-out-v Inv-loop μ-loop
-array-copy-out-v c = omega arith
-
-mul-sent : tie.Need-mul-sent Inv-loop μ-loop
-mul-sent c = omega arith
-
-array-copy-out-sent : tie.Need-array-copy-out-sent Inv-loop μ-loop
-array-copy-out-sent c = omega arith
-
 -- the two entries of a turn
 module _ (c : tie.In-loop Inv-loop μ-loop) where
   abbrev start : tie.Start Inv-loop μ-loop
@@ -70,18 +58,6 @@ module _ (c : tie.After-sent Inv-loop μ-loop) where
 add-v : tie.Need-add-v Inv-loop μ-loop
 add-v c = rw (entry-is c) (entry-fits c)
 
-mul-v-2 : tie.Need-mul-v-2 Inv-loop μ-loop
-mul-v-2 c = omega arith
-
-array-set-from-v : tie.Need-array-set-from-v Inv-loop μ-loop
-array-set-from-v c = omega arith
-
-add-l : tie.Need-add-l Inv-loop μ-loop
-add-l c = omega arith
-
-loop-less : tie.Need-loop-less Inv-loop μ-loop
-loop-less c = omega arith
-
 loop-again : tie.Need-loop-again Inv-loop μ-loop
 loop-again c =
     let s = start (turn c) in
@@ -100,15 +76,9 @@ joined-spec =
     Inv-loop
     μ-loop
     loop-holds
-    mul-v
-    array-copy-out-v
-    mul-sent
-    array-copy-out-sent
+    (λ c. omega arith) (λ c. omega arith) (λ c. omega arith) (λ c. omega arith)
     sent-requires
     add-v
-    mul-v-2
-    array-set-from-v
-    add-l
-    loop-less
+    (λ c. omega arith) (λ c. omega arith) (λ c. omega arith) (λ c. omega arith)
     loop-again
     returns)

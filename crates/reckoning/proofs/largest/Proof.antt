@@ -20,17 +20,8 @@ Inv-loop i n last most₀ l₀ most l = Searched i last (toZ w64 most) l
 abbrev μ-loop : tie.MeasureT-loop
 μ-loop i n last most₀ l₀ most l = last - l
 
-sub-last : tie.Need-sub-last Inv-loop μ-loop
-sub-last c = omega arith
-
 loop-holds : tie.Need-loop-holds Inv-loop μ-loop
 loop-holds c = search-start _ _
-
-mul-size : tie.Need-mul-size Inv-loop μ-loop
-mul-size c = omega arith
-
-element-copy-out-size : tie.Need-element-copy-out-size Inv-loop μ-loop
-element-copy-out-size c = omega arith
 
 -- a rate, and that it fits
 module _ (c : tie.In-loop Inv-loop μ-loop) where
@@ -51,12 +42,6 @@ module _ (c : tie.After-size Inv-loop μ-loop) where
   size-fits : SFits w64 (c .size .result)
   size-fits = ok64 (c .size .result) (c .size .ok)
 
-add-l : tie.Need-add-l Inv-loop μ-loop
-add-l c = omega arith
-
-loop-less : tie.Need-loop-less Inv-loop μ-loop
-loop-less c = omega arith
-
 loop-again : tie.Need-loop-again Inv-loop μ-loop
 loop-again c =
     let d = c .before in
@@ -74,12 +59,10 @@ largest-spec =
     (tie.spec
     Inv-loop
     μ-loop
-    sub-last
+    (λ c. omega arith)
     loop-holds
-    mul-size
-    element-copy-out-size
+    (λ c. omega arith) (λ c. omega arith)
     size-requires
-    add-l
-    loop-less
+    (λ c. omega arith) (λ c. omega arith)
     loop-again
     returns)

@@ -19,49 +19,10 @@ Inv-loop n j q rows r w i from v₀ c₀ v c = Rowing n j q rows r w i v c
 abbrev μ-loop : tie.MeasureT-loop
 μ-loop n j q rows r w i from v₀ c₀ v c = j - c
 
-first-requires : tie.Need-first-requires Inv-loop μ-loop
-first-requires c κs = search needs
-
-mul-v : tie.Need-mul-v Inv-loop μ-loop
-mul-v c = omega arith
-
-array-set-of-v : tie.Need-array-set-of-v Inv-loop μ-loop
-array-set-of-v c = omega arith
-
 loop-holds : tie.Need-loop-holds Inv-loop μ-loop
 loop-holds c =
     let p = c .before .pre in
     rw (c .first .ensures) (row-start _ _ _ _ _ _ _ (p .0) (p .1 .0) (p .1 .1))
-
-sub-years : tie.Need-sub-years Inv-loop μ-loop
-sub-years c = omega arith
-
-sub-d : tie.Need-sub-d Inv-loop μ-loop
-sub-d c = omega arith
-
-mul-joined : tie.Need-mul-joined Inv-loop μ-loop
-mul-joined c = omega arith
-
-array-copy-out-joined : tie.Need-array-copy-out-joined Inv-loop μ-loop
-array-copy-out-joined c = omega arith
-
-mul-joined-2 : tie.Need-mul-joined-2 Inv-loop μ-loop
-mul-joined-2 c = omega arith
-
-array-copy-out-joined-2 : tie.Need-array-copy-out-joined-2 Inv-loop μ-loop
-array-copy-out-joined-2 c = omega arith
-
-mul-joined-3 : tie.Need-mul-joined-3 Inv-loop μ-loop
-mul-joined-3 c = omega arith
-
-array-copy-out-joined-3 : tie.Need-array-copy-out-joined-3 Inv-loop μ-loop
-array-copy-out-joined-3 c = omega arith
-
-mul-joined-4 : tie.Need-mul-joined-4 Inv-loop μ-loop
-mul-joined-4 c = omega arith
-
-array-copy-out-joined-4 : tie.Need-array-copy-out-joined-4 Inv-loop μ-loop
-array-copy-out-joined-4 c = omega arith
 
 -- what a turn lends to `joined`
 module _ (c : tie.In-loop Inv-loop μ-loop) where
@@ -89,12 +50,6 @@ module _ (c : tie.In-loop Inv-loop μ-loop) where
 joined-requires : tie.Need-joined-requires Inv-loop μ-loop
 joined-requires c κs = let t = c .before .before .before .before in simp (back, matured-fits t, invested-fits t, rate-fits t) (joins t)
 
-add-c : tie.Need-add-c Inv-loop μ-loop
-add-c c = omega arith
-
-loop-less : tie.Need-loop-less Inv-loop μ-loop
-loop-less c = omega arith
-
 loop-again : tie.Need-loop-again Inv-loop μ-loop
 loop-again c =
     let t = c .before .before .before .before .before in
@@ -109,22 +64,11 @@ next-row-spec =
     (tie.spec
     Inv-loop
     μ-loop
-    first-requires
-    mul-v
-    array-set-of-v
+    (λ c κs. search needs) (λ c. omega arith) (λ c. omega arith)
     loop-holds
-    sub-years
-    sub-d
-    mul-joined
-    array-copy-out-joined
-    mul-joined-2
-    array-copy-out-joined-2
-    mul-joined-3
-    array-copy-out-joined-3
-    mul-joined-4
-    array-copy-out-joined-4
+    (λ c. omega arith) (λ c. omega arith) (λ c. omega arith) (λ c. omega arith) (λ c. omega arith)
+    (λ c. omega arith) (λ c. omega arith) (λ c. omega arith) (λ c. omega arith) (λ c. omega arith)
     joined-requires
-    add-c
-    loop-less
+    (λ c. omega arith) (λ c. omega arith)
     loop-again
     returns)

@@ -22,15 +22,6 @@ abbrev μ-loop : tie.MeasureT-loop
 loop-holds : tie.Need-loop-holds Inv-loop μ-loop
 loop-holds c = fit-start _ _
 
-mul-fits : tie.Need-mul-fits Inv-loop μ-loop
-mul-fits c = omega arith
-
-array-copy-out-fits : tie.Need-array-copy-out-fits Inv-loop μ-loop
-array-copy-out-fits c = omega arith
-
-fits-requires : tie.Need-fits-requires Inv-loop μ-loop
-fits-requires c κs = search needs
-
 -- the answer of the test is that of the entry
 module _ (c : tie.After-fits2 Inv-loop μ-loop) where
   abbrev v : List ℤ
@@ -41,12 +32,6 @@ module _ (c : tie.After-fits2 Inv-loop μ-loop) where
 
 returns : tie.Need-returns Inv-loop μ-loop
 returns c = sym (all-fails _ (entryFits (v (c .before))) _ (c .before .before .before .loop-test .taken) (sym (tested (c .before)) ∙ not-true _ (c .if1 .taken)))
-
-add-l : tie.Need-add-l Inv-loop μ-loop
-add-l c = omega arith
-
-loop-less : tie.Need-loop-less Inv-loop μ-loop
-loop-less c = omega arith
 
 loop-again : tie.Need-loop-again Inv-loop μ-loop
 loop-again c = fit-turn (c .before .before .before .before .loop .inv) (c .before .before .before .loop-test .taken) (sym (tested (c .before)) ∙ not-false _ (c .if1 .left))
@@ -61,11 +46,8 @@ row-fits-spec =
     Inv-loop
     μ-loop
     loop-holds
-    mul-fits
-    array-copy-out-fits
-    fits-requires
+    (λ c. omega arith) (λ c. omega arith) (λ c κs. search needs)
     returns
-    add-l
-    loop-less
+    (λ c. omega arith) (λ c. omega arith)
     loop-again
     returns-2)

@@ -13,12 +13,6 @@ use Rattle.reckoning.proofs.Pattern.{invested-within, sent-within}
 use Rattle.reckoning.proofs.sent.Statement.{statement}
 use Rattle.reckoning.proofs.sent.Tie as tie
 
-share-requires : tie.Need-share-requires
-share-requires c κs = search needs
-
-share-requires-2 : tie.Need-share-requires-2
-share-requires-2 c κs = search needs
-
 -- what was invested
 module _ (c : tie.After-share2) where
   abbrev s : tie.Start
@@ -65,4 +59,9 @@ returns c = simp (back, a-fits c, c-fits c, sum-fits c) (sum-is c)
 
 pub sent-spec : {M : Type 1} → statement M
 sent-spec =
-    tie.close (tie.spec share-requires share-requires-2 share-requires-3 add-result returns)
+    tie.close
+    (tie.spec
+    (λ c κs. search needs) (λ c κs. search needs)
+    share-requires-3
+    add-result
+    returns)

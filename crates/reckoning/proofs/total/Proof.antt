@@ -19,19 +19,10 @@ Inv-loop v w n q from s₀ k₀ s k = Totalled v w n (toZ w64 s) k
 abbrev μ-loop : tie.MeasureT-loop
 μ-loop v w n q from s₀ k₀ s k = n - k
 
-first-requires : tie.Need-first-requires Inv-loop μ-loop
-first-requires c κs = search needs
-
 loop-holds : tie.Need-loop-holds Inv-loop μ-loop
 loop-holds c =
     let s = c .before in
     subst (λ (k : ℕ). Totalled (s .args .v .now) (s .args .w .now) (s .args .n) (pos 0) k) (sym (c .first .ensures)) (total-start (s .pre))
-
-sub-years : tie.Need-sub-years Inv-loop μ-loop
-sub-years c = omega arith
-
-sub-d : tie.Need-sub-d Inv-loop μ-loop
-sub-d c = omega arith
 
 -- in the loop: the cell at k, and the weight that it has at the horizon
 module _ (c : tie.In-loop Inv-loop μ-loop) where
@@ -112,10 +103,9 @@ total-spec =
     (tie.spec
     Inv-loop
     μ-loop
-    first-requires
+    (λ c κs. search needs)
     loop-holds
-    sub-years
-    sub-d
+    (λ c. omega arith) (λ c. omega arith)
     mul-share
     element-copy-out-share
     mul-share-2

@@ -19,18 +19,6 @@ abbrev μ-loop : tie.MeasureT-loop
 loop-holds : tie.Need-loop-holds Inv-loop μ-loop
 loop-holds c = weigh-start (c .pre)
 
-mul-v : tie.Need-mul-v Inv-loop μ-loop
-mul-v c = omega arith
-
-array-set-from-v : tie.Need-array-set-from-v Inv-loop μ-loop
-array-set-from-v c = omega arith
-
-mul-left : tie.Need-mul-left Inv-loop μ-loop
-mul-left c = omega arith
-
-array-copy-out-left : tie.Need-array-copy-out-left Inv-loop μ-loop
-array-copy-out-left c = omega arith
-
 module _ (c : tie.After-left Inv-loop μ-loop) where
   r-fits : SFits w64 (getD (c .before .before .before .args .t1) (c .before .before .loop .d) (pos 0))
   r-fits = term-fits (c .before .before .before .pre) (c .before .loop-test .taken) (c .before .before .loop .inv)
@@ -40,12 +28,6 @@ module _ (c : tie.After-left Inv-loop μ-loop) where
 
 sub-left : tie.Need-sub-left Inv-loop μ-loop
 sub-left c = simp (back, r-fits c) (next-fits c)
-
-add-d : tie.Need-add-d Inv-loop μ-loop
-add-d c = omega arith
-
-loop-less : tie.Need-loop-less Inv-loop μ-loop
-loop-less c = omega arith
 
 loop-again : tie.Need-loop-again Inv-loop μ-loop
 loop-again c = simp (back, r-fits c, next-fits c) (weigh-turn (c .before .before .before .pre) (c .before .loop-test .taken) (c .before .before .loop .inv))
@@ -60,12 +42,8 @@ weights-spec =
     Inv-loop
     μ-loop
     loop-holds
-    mul-v
-    array-set-from-v
-    mul-left
-    array-copy-out-left
+    (λ c. omega arith) (λ c. omega arith) (λ c. omega arith) (λ c. omega arith)
     sub-left
-    add-d
-    loop-less
+    (λ c. omega arith) (λ c. omega arith)
     loop-again
     returns)

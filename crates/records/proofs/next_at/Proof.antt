@@ -14,38 +14,14 @@ returns c =
     let a = c .before .before .args in
     ap Stop (omega arith) ∙ sym (next-stop (now (a .file)) (a .at) (whole-no _ _ (omega arith)))
 
-sub-left : tie.Need-sub-left
-sub-left c = search needs
-
 returns-2 : tie.Need-returns-2
 returns-2 c = let a = c .before .before .before .args in sym (next-stop (now (a .file)) (a .at) (whole-no _ _ (omega arith)))
-
-u16-at-requires : tie.Need-u16-at-requires
-u16-at-requires c κs = search needs
-
-cast-size : tie.Need-cast-size
-cast-size c = search needs
-
-add-u16-at : tie.Need-add-u16-at
-add-u16-at c = search needs
-
-u16-at-requires-2 : tie.Need-u16-at-requires-2
-u16-at-requires-2 c κs = search needs
-
-cast-kind : tie.Need-cast-kind
-cast-kind c = search needs
 
 returns-3 : tie.Need-returns-3
 returns-3 c =
     let a = c .before .before .before .before .before .before .args in
     let size = c .before .before .u16-at .ensures in
     sym (next-stop (now (a .file)) (a .at) (whole-no _ _ (omega arith)))
-
-add-start : tie.Need-add-start
-add-start c = search needs
-
-add-t7 : tie.Need-add-t7
-add-t7 c = search needs
 
 returns-4 : tie.Need-returns-4
 returns-4 c =
@@ -59,14 +35,9 @@ next-at-spec =
     tie.close
     (tie.spec
     returns
-    sub-left
+    (λ c. search needs)
     returns-2
-    u16-at-requires
-    cast-size
-    add-u16-at
-    u16-at-requires-2
-    cast-kind
+    (λ c κs. search needs) (λ c. search needs) (λ c. search needs) (λ c κs. search needs) (λ c. search needs)
     returns-3
-    add-start
-    add-t7
+    (λ c. search needs) (λ c. search needs)
     returns-4)

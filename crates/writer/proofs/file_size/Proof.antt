@@ -22,9 +22,6 @@ Inv-loop shape count sum₀ t₀ sum t = (t ≤ count) × (sum ≡ sumℕ t (len
 abbrev μ-loop : tie.MeasureT-loop
 μ-loop shape count sum₀ t₀ sum t = count - t
 
-shape-of-requires : tie.Need-shape-of-requires Inv-loop μ-loop
-shape-of-requires c κs = search needs
-
 range : (c : tie.After-shape-of Inv-loop μ-loop) → InRange (c .shape-of .result)
 range c = rw (c .shape-of .ensures) (c .before .pre)
 
@@ -33,9 +30,6 @@ count-requires c κs = range c
 
 loop-holds : tie.Need-loop-holds Inv-loop μ-loop
 loop-holds c = (omega arith, sym (sumℕ-none _))
-
-spot-at-requires : tie.Need-spot-at-requires Inv-loop μ-loop
-spot-at-requires c κs = search needs
 
 size-of-requires : tie.Need-size-of-requires Inv-loop μ-loop
 size-of-requires c κs = range (c .before .before .before .before)
@@ -65,12 +59,6 @@ add-sum c = omega (arith, few c)
 add-sum-2 : tie.Need-add-sum-2 Inv-loop μ-loop
 add-sum-2 c = omega (arith, few c)
 
-add-t : tie.Need-add-t Inv-loop μ-loop
-add-t c = omega arith
-
-loop-less : tie.Need-loop-less Inv-loop μ-loop
-loop-less c = omega arith
-
 loop-again : tie.Need-loop-again Inv-loop μ-loop
 loop-again c = (omega arith, added c)
 
@@ -89,14 +77,13 @@ file-size-spec =
     (tie.spec
     Inv-loop
     μ-loop
-    shape-of-requires
+    (λ c κs. search needs)
     count-requires
     loop-holds
-    spot-at-requires
+    (λ c κs. search needs)
     size-of-requires
     add-sum
     add-sum-2
-    add-t
-    loop-less
+    (λ c. omega arith) (λ c. omega arith)
     loop-again
     returns)

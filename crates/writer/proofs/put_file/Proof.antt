@@ -17,17 +17,11 @@ Inv-loop b₀ plan shape count place₀ t₀ b place t = Laying (held plan) b₀
 abbrev μ-loop : tie.MeasureT-loop
 μ-loop b₀ plan shape count place₀ t₀ b place t = count - t
 
-shape-of-requires : tie.Need-shape-of-requires Inv-loop μ-loop
-shape-of-requires c κs = search needs
-
 count-requires : tie.Need-count-requires Inv-loop μ-loop
 count-requires c κs = rw (c .shape-of .ensures) (c .before .before .pre .0)
 
 loop-holds : tie.Need-loop-holds Inv-loop μ-loop
 loop-holds c = let s = c .before .before .before in laying-none (held (s .args .plan)) (s .pre .1)
-
-spot-at-requires : tie.Need-spot-at-requires Inv-loop μ-loop
-spot-at-requires c κs = search needs
 
 -- how many records there are
 counted : (c : tie.After-count Inv-loop μ-loop) → c .count .result ≡ total (groupsOf (held (c .before .before .before .args .plan) .shape))
@@ -53,12 +47,6 @@ put-record-requires c κs =
     let H = held (start d .args .plan) in
     (start d .pre .0, (spot-there H (spot d) (few d), laying-room H (spot d) (few d) (turn d .loop .inv)))
 
-add-t : tie.Need-add-t Inv-loop μ-loop
-add-t c = omega arith
-
-loop-less : tie.Need-loop-less Inv-loop μ-loop
-loop-less c = omega arith
-
 loop-again : tie.Need-loop-again Inv-loop μ-loop
 loop-again c =
     let d = c .before .before .before .before in
@@ -78,13 +66,12 @@ put-file-spec =
     (tie.spec
     Inv-loop
     μ-loop
-    shape-of-requires
+    (λ c κs. search needs)
     count-requires
     loop-holds
-    spot-at-requires
+    (λ c κs. search needs)
     put-record-requires
-    add-t
-    loop-less
+    (λ c. omega arith) (λ c. omega arith)
     loop-again
     same-length
     returns)

@@ -17,14 +17,8 @@ put-front-requires c κs = room-front _ (c .before .before .pre .1)
 body : (c : tie.After-put-front) → Room (c .put-front .last .0) (c .put-front .result) (headRec (c .before .before .before .args .shape) .body)
 body c = room-body 1 4 (c .put-front .ensures) (c .before .before .before .pre .1)
 
-cast-b : tie.Need-cast-b
-cast-b c = search needs
-
 slice-write-b : tie.Need-slice-write-b
 slice-write-b c = omega (arith, body (c .before .before .before) .fits)
-
-cast-b-2 : tie.Need-cast-b-2
-cast-b-2 c = search needs
 
 add-b : tie.Need-add-b
 add-b c = omega (arith, body (c .before .before .before .before) .fits)
@@ -32,17 +26,11 @@ add-b c = omega (arith, body (c .before .before .before .before) .fits)
 slice-write-b-2 : tie.Need-slice-write-b-2
 slice-write-b-2 c = simp length-set (omega (arith, body (c .before .before .before .before) .fits))
 
-cast-b-3 : tie.Need-cast-b-3
-cast-b-3 c = search needs
-
 add-b-2 : tie.Need-add-b-2
 add-b-2 c = omega (arith, body (c .before .before .before .before .before) .fits)
 
 slice-write-b-3 : tie.Need-slice-write-b-3
 slice-write-b-3 c = simp length-set (omega (arith, body (c .before .before .before .before .before) .fits))
-
-cast-b-4 : tie.Need-cast-b-4
-cast-b-4 c = search needs
 
 add-b-3 : tie.Need-add-b-3
 add-b-3 c = omega (arith, body (c .before .before .before .before .before .before) .fits)
@@ -52,9 +40,6 @@ slice-write-b-4 c = simp length-set (omega (arith, body (c .before .before .befo
 
 add-result : tie.Need-add-result
 add-result c = omega (arith, body (c .before .before .before .before .before .before) .fits)
-
-same-length : tie.Need-same-length
-same-length c = search needs
 
 returns : tie.Need-returns
 returns c =
@@ -67,17 +52,17 @@ put-head-spec =
     tie.close
     (tie.spec
     put-front-requires
-    cast-b
+    (λ c. search needs)
     slice-write-b
-    cast-b-2
+    (λ c. search needs)
     add-b
     slice-write-b-2
-    cast-b-3
+    (λ c. search needs)
     add-b-2
     slice-write-b-3
-    cast-b-4
+    (λ c. search needs)
     add-b-3
     slice-write-b-4
     add-result
-    same-length
+    (λ c. search needs)
     returns)

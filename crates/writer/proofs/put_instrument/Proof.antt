@@ -14,9 +14,6 @@ put-amounts-record-requires c κs =
     let p = c .before .before .before .before .pre in
     (p .0, (omega (arith, p .0, slice-aggregate-put-amounts-record c), p .1))
 
-same-length : tie.Need-same-length
-same-length c = search needs
-
 returns : tie.Need-returns
 unfolding instrumentRec
 returns c = c .before .before .put-amounts-record .ensures
@@ -24,4 +21,8 @@ returns c = c .before .before .put-amounts-record .ensures
 pub put-instrument-spec : {M : Type 1} → statement M
 put-instrument-spec =
     tie.close
-    (tie.spec slice-aggregate-put-amounts-record put-amounts-record-requires same-length returns)
+    (tie.spec
+    slice-aggregate-put-amounts-record
+    put-amounts-record-requires
+    (λ c. search needs)
+    returns)

@@ -7,15 +7,6 @@ use Rattle.writer.proofs.Record.{room-front, room-body, wrote-record}
 use Rattle.writer.proofs.put_pattern.Statement.{statement}
 use Rattle.writer.proofs.put_pattern.Tie as tie
 
-sub-n : tie.Need-sub-n
-sub-n c = omega arith
-
-mul-put-front : tie.Need-mul-put-front
-mul-put-front c = omega arith
-
-cast-put-front : tie.Need-cast-put-front
-cast-put-front c = omega arith
-
 put-front-requires : tie.Need-put-front-requires
 unfolding patternRec
 put-front-requires c κs = room-front _ (c .before .before .before .pre .1 .1)
@@ -30,9 +21,6 @@ put-rates-requires c κs =
     let p = front .before .before .before .before .pre in
     (omega (arith, p .1 .0, slice-aggregate-put-rates c), room-body _ _ (front .put-front .ensures) (p .1 .1))
 
-same-length : tie.Need-same-length
-same-length c = search needs
-
 returns : tie.Need-returns
 unfolding patternRec
 returns c =
@@ -43,11 +31,9 @@ pub put-pattern-spec : {M : Type 1} → statement M
 put-pattern-spec =
     tie.close
     (tie.spec
-    sub-n
-    mul-put-front
-    cast-put-front
+    (λ c. omega arith) (λ c. omega arith) (λ c. omega arith)
     put-front-requires
     slice-aggregate-put-rates
     put-rates-requires
-    same-length
+    (λ c. search needs)
     returns)

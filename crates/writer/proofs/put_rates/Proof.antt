@@ -22,12 +22,6 @@ abbrev μ-loop : tie.MeasureT-loop
 loop-holds : tie.Need-loop-holds Inv-loop μ-loop
 loop-holds c = run-from 4 _ (c .before .pre .1)
 
-mul-put-i32 : tie.Need-mul-put-i32 Inv-loop μ-loop
-mul-put-i32 c = omega arith
-
-shared-slice-copy-out-put-i32 : tie.Need-shared-slice-copy-out-put-i32 Inv-loop μ-loop
-shared-slice-copy-out-put-i32 c = omega arith
-
 put-i32-requires : tie.Need-put-i32-requires Inv-loop μ-loop
 put-i32-requires c κs =
     let d = c .before .before in
@@ -37,12 +31,6 @@ add-place : tie.Need-add-place Inv-loop μ-loop
 add-place c =
     let d = c .before .before .before .before .before in
     omega (arith, room-more (d .before .loop .inv) (d .loop-test .taken), d .before .loop .inv .length-kept)
-
-add-k : tie.Need-add-k Inv-loop μ-loop
-add-k c = omega arith
-
-loop-less : tie.Need-loop-less Inv-loop μ-loop
-loop-less c = omega arith
 
 loop-again : tie.Need-loop-again Inv-loop μ-loop
 loop-again c =
@@ -64,12 +52,10 @@ put-rates-spec =
     Inv-loop
     μ-loop
     loop-holds
-    mul-put-i32
-    shared-slice-copy-out-put-i32
+    (λ c. omega arith) (λ c. omega arith)
     put-i32-requires
     add-place
-    add-k
-    loop-less
+    (λ c. omega arith) (λ c. omega arith)
     loop-again
     same-length
     returns)

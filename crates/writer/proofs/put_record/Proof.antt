@@ -59,8 +59,6 @@ module _ (s : tie.Start) where
   pattern key = ap (patternRec (plan .years)) (pattern-is plan (s .args .j) (patterns key))
 
 -- ---- 1: the head
-shape-of-requires : tie.Need-shape-of-requires
-shape-of-requires c κs = search needs
 
 head : (c : tie.After-shape-of) → asked (c .before .before .before) 1 ≡ headRec (c .shape-of .result)
 unfolding recordOf nth
@@ -198,7 +196,7 @@ pub put-record-spec : {M : Type 1} → statement M
 put-record-spec =
     tie.close
     (tie.spec
-    shape-of-requires
+    (λ c κs. search needs)
     put-head-requires
     mul-row
     element-copy-out-row

@@ -19,12 +19,6 @@ abbrev μ-loop : tie.MeasureT-loop
 loop-holds : tie.Need-loop-holds Inv-loop μ-loop
 loop-holds c = run-from 4 _ (c .before .before .pre .1)
 
-mul-put-u32 : tie.Need-mul-put-u32 Inv-loop μ-loop
-mul-put-u32 c = omega arith
-
-shared-slice-read-put-u32 : tie.Need-shared-slice-read-put-u32 Inv-loop μ-loop
-shared-slice-read-put-u32 c = omega arith
-
 put-u32-requires : tie.Need-put-u32-requires Inv-loop μ-loop
 put-u32-requires c κs =
     let d = c .before .before in
@@ -34,12 +28,6 @@ add-place : tie.Need-add-place Inv-loop μ-loop
 add-place c =
     let d = c .before .before .before .before .before in
     omega (arith, room-more (d .before .loop .inv) (d .loop-test .taken), d .before .loop .inv .length-kept)
-
-add-k : tie.Need-add-k Inv-loop μ-loop
-add-k c = omega arith
-
-loop-less : tie.Need-loop-less Inv-loop μ-loop
-loop-less c = omega arith
 
 loop-again : tie.Need-loop-again Inv-loop μ-loop
 loop-again c =
@@ -60,12 +48,10 @@ put-shares-spec =
     Inv-loop
     μ-loop
     loop-holds
-    mul-put-u32
-    shared-slice-read-put-u32
+    (λ c. omega arith) (λ c. omega arith)
     put-u32-requires
     add-place
-    add-k
-    loop-less
+    (λ c. omega arith) (λ c. omega arith)
     loop-again
     same-length
     returns)

@@ -5,12 +5,6 @@ use Rattle.writer.proofs.Record.{room-front, room-body, wrote-record}
 use Rattle.writer.proofs.put_shares_record.Statement.{statement}
 use Rattle.writer.proofs.put_shares_record.Tie as tie
 
-mul-put-front : tie.Need-mul-put-front
-mul-put-front c = search needs
-
-cast-put-front : tie.Need-cast-put-front
-cast-put-front c = search needs
-
 put-front-requires : tie.Need-put-front-requires
 put-front-requires c κs = room-front _ (c .before .before .before .pre .1 .1)
 
@@ -19,9 +13,6 @@ put-shares-requires c κs =
     let front = c .before .before .before in
     let s = front .before .before .before .before in
     (s .pre .1 .0, room-body _ _ (front .put-front .ensures) (s .pre .1 .1))
-
-same-length : tie.Need-same-length
-same-length c = search needs
 
 returns : tie.Need-returns
 returns c =
@@ -32,9 +23,8 @@ pub put-shares-record-spec : {M : Type 1} → statement M
 put-shares-record-spec =
     tie.close
     (tie.spec
-    mul-put-front
-    cast-put-front
+    (λ c. search needs) (λ c. search needs)
     put-front-requires
     put-shares-requires
-    same-length
+    (λ c. search needs)
     returns)

@@ -12,9 +12,6 @@ use Rattle.writer.proofs.Left.{refused-plan, refused-short, written}
 use Rattle.writer.proofs.write.Statement.{statement}
 use Rattle.writer.proofs.write.Tie as tie
 
-refusal-requires : tie.Need-refusal-requires
-refusal-requires c κs = search needs
-
 returns : tie.Need-returns
 returns c = refused-plan _ _ (c .before .refusal .ensures) (c .if1 .taken)
 
@@ -37,9 +34,6 @@ put-file-requires c κs =
     let d = c .before .before in
     (range (d .before), record { fits = omega (arith, d .file-size .ensures) })
 
-same-length : tie.Need-same-length
-same-length c = search needs
-
 returns-3 : tie.Need-returns-3
 returns-3 c =
     let p = c .before .before in
@@ -50,4 +44,11 @@ returns-3 c =
 pub write-spec : {M : Type 1} → statement M
 write-spec =
     tie.close
-    (tie.spec refusal-requires returns file-size-requires returns-2 put-file-requires same-length returns-3)
+    (tie.spec
+    (λ c κs. search needs)
+    returns
+    file-size-requires
+    returns-2
+    put-file-requires
+    (λ c. search needs)
+    returns-3)
