@@ -29,6 +29,7 @@ use Rattle.plan.specs.Refusal.{
   paymentsFit,
   paymentsOk,
   outflowsOk,
+  amountsOk,
   rolloverOk,
   ratesFit,
   ratesOk,
@@ -170,14 +171,14 @@ head-passed P e = head-is P (check-true (headOk P) 3 0 (omega arith) e)
 
 -- a plan that is not refused has passed every check
 pub accepted : (plan : Plan) → refusalOf (numbers plan) ≡ 0 → Accepted (numbers plan)
-unfolding refusalOf amountsRefusal ratesRefusal allocationRefusal rolloverOk allocationOk
+unfolding refusalOf amountsRefusal ratesRefusal allocationRefusal amountsOk rolloverOk allocationOk
 accepted plan e =
     let P = numbers plan in
     let e₆ = first-next (headRefusal P) _ e in
     let amounts = first-none (amountsRefusal P) _ e₆ in
     let e₈ = first-next (amountsRefusal P) _ e₆ in
-    let both₆ = check-true (both (paymentsOk P) (outflowsOk P)) 6 _ (omega arith) amounts in
-    let e₇ = check-rest (both (paymentsOk P) (outflowsOk P)) 6 _ (omega arith) amounts in
+    let both₆ = check-true (amountsOk P) 6 _ (omega arith) amounts in
+    let e₇ = check-rest (amountsOk P) 6 _ (omega arith) amounts in
     record {
       head = head-passed P (first-none (headRefusal P) _ e);
       payments = payment-each plan (both-first _ _ both₆);
@@ -209,5 +210,5 @@ module _ {P : Numbers} (ok : Accepted P) where
   rates-pass = all-yes (P .patterns) _ (λ t h. all-yes (P .years - 1) _ (λ l k. between-yes _ _ _ (ok .rates (1 + t) (2 + l))))
 
   pub accepted-none : refusalOf P ≡ 0
-  unfolding refusalOf headRefusal amountsRefusal ratesRefusal allocationRefusal rolloverOk allocationOk
+  unfolding refusalOf headRefusal amountsRefusal ratesRefusal allocationRefusal amountsOk rolloverOk allocationOk
   accepted-none = rw (head-passes, payments-pass, outflows-pass, eq-eqb _ _ (ok .rollover), rates-pass, eq-eqb _ _ (ok .allocation))

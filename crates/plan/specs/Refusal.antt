@@ -54,6 +54,9 @@ module _ (P : Numbers) where
   unfoldable pub outflowsOk : Bool
   outflowsOk = all (P .years) (λ k. isWithin most (P .o (1 + k)))
 
+  unfoldable pub amountsOk : Bool
+  amountsOk = both paymentsOk outflowsOk
+
   -- 7
   unfoldable pub rolloverOk : Bool
   rolloverOk = eqb (Σℕ 1 (P .terms) (P .r)) million
@@ -79,7 +82,7 @@ module _ (P : Numbers) where
   -- payments, outflows and the rollover
   unfoldable pub amountsRefusal : ℕ
   amountsRefusal =
-      check (both paymentsOk outflowsOk) 6
+      check amountsOk 6
       (check rolloverOk 7
       0)
 

@@ -7,7 +7,7 @@ ghost use Rattle.whole.specs.Sum.{sumℕ};
 ghost use Rattle.whole.specs.Test.{all, isFrom, isBetween};
 ghost use Rattle.plan.specs.Held.{shapeOf, instrumentHeld, patternHeld};
 ghost use Rattle.plan.specs.Numbers.{paymentsMeant, ratesMeant, numbers};
-ghost use Rattle.plan.specs.Refusal.{Head, shapeOk, paymentsOk, outflowsOk, rolloverOk, ratesOk, allocationOk, headRefusal, amountsRefusal, ratesRefusal, allocationRefusal, refusalOf};
+ghost use Rattle.plan.specs.Refusal.{Head, shapeOk, paymentsOk, outflowsOk, amountsOk, rolloverOk, ratesOk, allocationOk, headRefusal, amountsRefusal, ratesRefusal, allocationRefusal, refusalOf};
 
 // N, n, q and m: what decides which records a plan file has.
 pub struct Shape {
@@ -175,6 +175,17 @@ fn outflows_ok(plan: Plan) -> bool
     amounts_ok(&outflows, plan.years, -20_000_000_000, 20_000_000_000)
 }
 
+// Check 6.
+fn all_amounts_ok(plan: Plan) -> bool
+    requires { ⌜ Head (numbers plan) ⌝ }
+    ensures { λ b. ⌜ b ≡ amountsOk (numbers plan) ⌝ }
+{
+    if !payments_ok(plan) {
+        return false;
+    }
+    outflows_ok(plan)
+}
+
 // Check 7.
 fn rollover_ok(plan: Plan) -> bool
     requires { ⌜ Head (numbers plan) ⌝ }
@@ -228,10 +239,7 @@ pub fn amounts_refusal(plan: Plan) -> u8
     requires { ⌜ Head (numbers plan) ⌝ }
     ensures { λ s. ⌜ s ≡ amountsRefusal (numbers plan) ⌝ }
 {
-    if !payments_ok(plan) {
-        return 6;
-    }
-    if !outflows_ok(plan) {
+    if !all_amounts_ok(plan) {
         return 6;
     }
     if !rollover_ok(plan) {

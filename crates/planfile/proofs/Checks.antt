@@ -64,13 +64,18 @@ module _ (s : List ℕ) where
         let four = eqb-true (length (bodyAt s 0)) 4 (both-first _ _ body-passed) in
         omega (arith, whole-end s 0 w, length-body s 0 w)
 
+-- ---- the role of record t, by what the cursor finds
+pub has-found : (s : List ℕ) (t role k a e : ℕ) → nextAt s (place s t) ≡ Record k a e → hasRole s t role ≡ eqb (roleOf k) role
+unfolding hasRole
+has-found s t role k a e n = rw (next-known s (place s t) k a e n .whole, ← kind-next s t k a e n)
+
 -- ---- check 4
 module _ (s : List ℕ) (gs : List Group) where
   -- record t by what the cursor finds
   module _ (t : ℕ) where
     pub role-found : (k a e : ℕ) → nextAt s (place s t) ≡ Record k a e → roleOk s gs t ≡ eqb (roleOf k) (spotAt gs t .role)
-    unfolding roleOk hasRole
-    role-found k a e n = rw (next-known s (place s t) k a e n .whole, ← kind-next s t k a e n)
+    unfolding roleOk
+    role-found = has-found s t (spotAt gs t .role)
 
     pub role-missing : (l : ℕ) → nextAt s (place s t) ≡ Stop l → roleOk s gs t ≡ false
     unfolding roleOk hasRole

@@ -13,7 +13,7 @@ use Rattle.little_endian.specs.Runs.{run, numberAt}
 use Rattle.records.specs.Record.{recordBytes, fileBytes}
 use Rattle.records.specs.Cursor.{wholeAt, wholeFrom, wholeFile, place, kindAt, bodyAt}
 use Rattle.plan.specs.Held.{instrumentsHeld, outflowsHeld, rolloverHeld, patternsHeld, allocationHeld, held, planFrom}
-use Rattle.plan.specs.Refusal.{shapeOk, headOk, paymentsFit, paymentsOk, outflowsOk, rolloverOk, ratesFit, ratesOk, allocationOk, headRefusal, amountsRefusal, ratesRefusal, allocationRefusal, refusalOf}
+use Rattle.plan.specs.Refusal.{shapeOk, headOk, paymentsFit, paymentsOk, outflowsOk, amountsOk, rolloverOk, ratesFit, ratesOk, allocationOk, headRefusal, amountsRefusal, ratesRefusal, allocationRefusal, refusalOf}
 use Rattle.plan.specs.Case.{nearL, planL}
 use Rattle.planfile.specs.Kinds.{roleOf, sizeOf}
 use Rattle.planfile.specs.Groups.{groupsOf, total, spotAt, placeOf, laid}
@@ -50,7 +50,7 @@ pub refused-near : map readRefusal (fileL ∷ fileOf (held (nearL 1_000_000 (pos
     ≡ 0 ∷ 0 ∷ 8 ∷ 7 ∷ []
 unfolding readRefusal layoutRefusal wholeFile wholeFrom wholeAt firstOk shapeIn shapeOk hasRole roleOk rolesOk sizeOk sizesOk roleOf sizeOf nth all
     total spotAt place kindAt bodyAt leAt leOf heldIn heldOf recordIn groupsOf placeOf instrumentIn patternIn entry cut numberAt signedOf
-    refusalOf headRefusal amountsRefusal ratesRefusal allocationRefusal headOk paymentsOk paymentsFit isBetween outflowsOk rolloverOk ratesOk ratesFit allocationOk sumℕ
+    refusalOf headRefusal amountsRefusal ratesRefusal allocationRefusal headOk paymentsOk paymentsFit isBetween outflowsOk amountsOk rolloverOk ratesOk ratesFit allocationOk sumℕ
     fileOf fileFrom fileBytes recordBytes laid table recordOf instrumentRec patternRec run bytesOf unsignedOf
     instrumentsHeld outflowsHeld rolloverHeld patternsHeld allocationHeld nearL fileL
 refused-near = refl

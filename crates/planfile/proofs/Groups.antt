@@ -10,6 +10,7 @@ use borrow.Author.Tests.{le-ltb, lt-ltb, eqb-true, eq-eqb, ne-eqb}
 use lib.Dec.{eqb}
 use lib.ListN.{length, getD, drop, drop-of-length-le, length-append, List·getD-append}
 use lib.Seq.{getD-append-add, drop-cons, ext-getD}
+use Rattle.whole.specs.Entry.{nth}
 use Rattle.whole.specs.Test.{pick, both}
 use Rattle.whole.specs.Table.{table}
 use Rattle.whole.proofs.Laws.{ℕ-cases}
@@ -188,8 +189,8 @@ module _ (h : Shape) where
   unfolding groupsOf total
   total-few r = omega (arith, r .instruments-few, r .patterns-few)
 
-  pub most-few : InRange h → most (groupsOf h) ≤ 16_384
-  unfolding groupsOf
+  pub most-few : InRange h → most (groupsOf h) ≤ 12_028
+  unfolding groupsOf nth
   most-few r = omega (arith, r .instruments-few, r .patterns-few)
 
   -- the spot of record t is that of a record of its role, whose place is t

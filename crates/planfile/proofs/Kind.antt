@@ -71,9 +71,17 @@ below-at b [] e k = omega arith
 below-at b (x ∷ xs) e zero = e .0
 below-at b (x ∷ xs) e (suc k) = below-at (λ k. b (suc k)) xs (e .1) k
 
--- no body of a role is longer: a pattern's is short, and there are many of them
+-- no body of a role is longer, from role 1 on
 abbrev pub longest : (role : ℕ) → ℕ
-longest role = pick (eqb role 5) 120 240
+longest =
+    nth 0
+    (4
+    ∷ 240
+    ∷ 240
+    ∷ 120
+    ∷ 116
+    ∷ 64
+    ∷ [])
 
 module _ (h : Shape) (r : InRange h) where
   pub size-most : (kind : ℕ) → sizeOf h kind ≤ longest (roleOf kind)

@@ -1,4 +1,4 @@
--- No file of a shape that check 3 takes is too long for check 1.
+-- The longest file of a shape that check 3 takes, which is not too long for check 1.
 use mathlib.Core.Path.{sym, ap}
 use mathlib.Core.Logic.{⊎-elim}
 use mathlib.Core.List.{List, [], _∷_}
@@ -46,7 +46,7 @@ module _ (h : Shape) (range : InRange h) (f : (role j : ℕ) → Rec) (fit : All
       (λ (l : countOf (groupsOf h) role ≤ j). rw (cut-past none _ (f role) j l) (omega arith))
       (ℕ-cases j (countOf (groupsOf h) role))
 
-  pub length-written : length (fileFrom h f) ≤ 16_384
+  pub length-written : length (fileFrom h f) ≤ 12_028
   unfolding fileFrom
   length-written =
       rw (laid-cong h f had (λ role j l. sym (cut-in none _ (f role) j l))) (omega (arith, groups-few had had-few (groupsOf h), most-few h range))

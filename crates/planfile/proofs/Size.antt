@@ -1,8 +1,8 @@
 -- How long the file of a plan is.
 use mathlib.Core.Path.{_≡_, refl}
 use mathlib.Core.List.{List, [], _∷_}
-use Prim.Native.Nat.{ℕ, zero, suc, _+_, _*_, _-_, _≤_}
-use native.Mathlib.Nat.{mul-suc, mul-le-mul}
+use Prim.Native.Nat.{ℕ, zero, suc, _+_, _*_, _-_}
+use native.Mathlib.Nat.{mul-suc}
 use native.Mathlib.Omega.{arith}
 use lib.ListN.{length, length-append}
 use Rattle.whole.specs.Entry.{nth}
@@ -16,7 +16,6 @@ use Rattle.planfile.specs.declared.Group.{Group}
 use Rattle.planfile.specs.Groups.{groupsOf, one, many, none, laid}
 use Rattle.planfile.specs.Rows.{instrumentRec, patternRec}
 use Rattle.planfile.specs.Records.{recordOf, fileFrom, fileOf}
-use Rattle.planfile.specs.Reading.{InRange}
 
 -- n records of b bytes each
 rows-length : (b : ℕ) (f : ℕ → Rec) → ((j : ℕ) → length (f j .body) ≡ b) → (n : ℕ) → length (fileBytes (table n n f none)) ≡ (4 + b) * n
@@ -53,12 +52,3 @@ module _ (H : Held) where
         group-length f 5 (h .patterns) (4 * (h .years - 1)) after-5 (λ j. length-run 4 (h .years - 1) _),
         group-length f 6 1 (4 * h .instruments) after-6 (λ j. length-run 4 (h .instruments) _),
       )
-
-  -- 12,028 bytes at most
-  pub longest-file : InRange h → length (fileOf H) ≤ 12_028
-  longest-file r =
-      let payments : 4 + 8 * h .years ≤ 244 = omega (arith, r .years-few) in
-      let rates : 4 + 4 * (h .years - 1) ≤ 120 = omega (arith, r .years-few) in
-      let rows : (4 + 8 * h .years) * h .instruments ≤ 244 * 16 = mul-le-mul payments (r .instruments-few) in
-      let patterns : (4 + 4 * (h .years - 1)) * h .patterns ≤ 120 * 64 = mul-le-mul rates (r .patterns-few) in
-      omega (arith, length-is, rows, patterns, r .years-few, r .terms-few, r .instruments-few)

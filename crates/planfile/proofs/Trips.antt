@@ -65,7 +65,7 @@ module _ (H : Held) (range : InRange (H .shape)) where
       let h = H .shape in
       let u = suits-held H in
       rw (
-        le-leb _ 16_384 (length-written h range (recordOf H) u),
+        le-leb (length (fileFrom h (recordOf H))) 16_384 (omega (arith, length-written h range (recordOf H) u)),
         whole-written h range (recordOf H) u,
         first-written h range (recordOf H) u refl (rw (shape-held H range) ok),
         shape-held H range,

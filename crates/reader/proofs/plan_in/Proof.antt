@@ -2,8 +2,8 @@
 -- that of record t.
 use mathlib.Core.Path.{_≡_, refl, sym, ap, _∙_}
 use mathlib.Core.List.{List}
-use mathlib.Core.Logic.{⊎-elim}
-use Prim.Native.Nat.{ℕ, _+_, _-_, _≤_, _<_}
+use mathlib.Core.Logic.{_⊎_, ⊎-elim}
+use Prim.Native.Nat.{ℕ, suc, _+_, _-_, _≤_, _<_}
 use native.Mathlib.Omega.{arith}
 use borrow.Author.Needs.{needs}
 use denote.Ref.{now}
@@ -144,6 +144,11 @@ returns c =
     let missed = reached s (loop .loop .t) (loop .loop .inv .1) (c .before .before .record-at .ensures) (c .enum-told .given .1) in
     absurd (none-missing s (groupsOf (first .args .shape)) (first .pre .roles) (loop .loop .t) _ (omega arith) missed)
 
+-- either way, where each goes on from its own
+infixr 20 _∥_
+abbrev _∥_ : {A B C : Type 0} → (A → C) → (B → C) → A ⊎ B → C
+_∥_ f g = ⊎-elim f g
+
 -- ---- the plan after the record, by the kind that the match found
 put : (c : tie.At-match2-came Inv-loop μ-loop) → c .match2 .plan ≡ planAfter (s (d (c .before))) (h (d (c .before))) (t (d (c .before)) + 1)
 unfolding roleOf nth
@@ -151,14 +156,14 @@ put c =
     let b = c .before in
     let p = loop (d b) .loop .inv .2 in
     let given = handed b in
-    ⊎-elim (λ u. absurd (none b (u .0 .keys1) refl))
-    (⊎-elim (λ u. u .1 ∙ fill-head _ _ p given (turned b (u .0 .keys2)) refl refl)
-    (⊎-elim (λ u. u .2 ∙ fill-instrument _ _ p given (turned b (u .0 .keys3)) refl refl (u .1 .ensures) (instrument-few b (u .0 .keys3)))
-    (⊎-elim (λ u. u .2 ∙ fill-outflows _ _ p given (turned b (u .0 .keys4)) refl (u .1 .ensures))
-    (⊎-elim (λ u. u .4 ∙ fill-rollover _ _ p given (turned b (u .0 .keys5)) refl (u .2 .ensures))
-    (⊎-elim (λ u. u .3 ∙ fill-pattern _ _ p given (turned b (u .0 .keys6)) refl refl (u .2 .ensures) (pattern-few b (u .0 .keys6)))
-    (⊎-elim (λ u. u .4 ∙ fill-allocation _ _ p given (turned b (u .0 .keys7)) refl (u .2 .ensures))
-    (λ u. absurd (none b refl (nth-outside 0 roles _ (λ l. past 7 (u .0 .rest)))))))))))
+    ((λ u. absurd (none b (u .0 .keys1) refl))
+    ∥ (λ u. u .1 ∙ fill-head _ _ p given (turned b (u .0 .keys2)) refl refl)
+    ∥ (λ u. u .2 ∙ fill-instrument _ _ p given (turned b (u .0 .keys3)) refl refl (u .1 .ensures) (instrument-few b (u .0 .keys3)))
+    ∥ (λ u. u .2 ∙ fill-outflows _ _ p given (turned b (u .0 .keys4)) refl (u .1 .ensures))
+    ∥ (λ u. u .4 ∙ fill-rollover _ _ p given (turned b (u .0 .keys5)) refl (u .2 .ensures))
+    ∥ (λ u. u .3 ∙ fill-pattern _ _ p given (turned b (u .0 .keys6)) refl refl (u .2 .ensures) (pattern-few b (u .0 .keys6)))
+    ∥ (λ u. u .4 ∙ fill-allocation _ _ p given (turned b (u .0 .keys7)) refl (u .2 .ensures))
+    ∥ (λ u. absurd (none b refl (nth-outside 0 roles _ (λ l. past (suc (length roles)) (u .0 .rest))))))
     (c .match2 .came)
 
 loop-again : tie.Need-loop-again Inv-loop μ-loop

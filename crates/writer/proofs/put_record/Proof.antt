@@ -5,6 +5,8 @@ use Prim.Native.Nat.{ℕ, _<_}
 use native.Mathlib.Omega.{arith}
 use borrow.Author.Needs.{needs}
 use denote.Ref.{now}
+use lib.ListN.{length}
+use Rattle.planfile.specs.Kinds.{roles}
 use Rattle.whole.specs.Entry.{nth}
 use Rattle.little_endian.specs.Wrote.{Room, Wrote}
 use Rattle.little_endian.proofs.Wrote.{wrote-as, wrote-length}
@@ -190,7 +192,7 @@ returns-7 : tie.Need-returns-7
 returns-7 c =
     let s = c .before .before in
     let l = s .pre .1 .0 in
-    absurd (omega (arith, role-few (held (plan s)) _ _ l, past-from 1 6 (role-some _ _ _ l) (c .match .rest)))
+    absurd (omega (arith, role-few (held (plan s)) _ _ l, past-from 1 (length roles) (role-some _ _ _ l) (c .match .rest)))
 
 pub put-record-spec : {M : Type 1} → statement M
 put-record-spec =
