@@ -20,6 +20,7 @@ ghost use Rattle.planfile.specs.Reading.{InRange};
 ghost use Rattle.planfile.specs.Write.{writeAnswer, bufferAfter};
 ghost use Rattle.planfile.specs.Demand2.{OneFile};
 ghost use Rattle.writer.specs.First.{first};
+ghost use Rattle.writer.specs.Row.{NoRow};
 
 // ---- numbers
 
@@ -136,10 +137,11 @@ fn put_pattern(b: &mut [u8], at: usize, row: Pattern, years: usize) -> usize
     put_rates(b, body, &rates, n)
 }
 
-// Record j of a role. The place after it.
+// Record j of a role other than an instrument's or a pattern's. The place after it.
 fn put_record(b: &mut [u8], at: usize, plan: Plan, role: usize, j: usize) -> usize
     requires { ⌜ InRange (shapeOf plan) ⌝ }
     requires { ⌜ j < countOf (groupsOf (shapeOf plan)) role ⌝ }
+    requires { ⌜ NoRow role ⌝ }
     requires { ⌜ Room (now b) at (recordBytes (recordOf (held plan) role j)) ⌝ }
     ensures { λ r. ⌜ Wrote (now (b .entry)) (now (b .exit)) at (recordBytes (recordOf (held plan) role j)) r ⌝ }
 {
@@ -149,10 +151,6 @@ fn put_record(b: &mut [u8], at: usize, plan: Plan, role: usize, j: usize) -> usi
             let shape = plan::shape_of(plan);
             put_head(b, at, shape)
         }
-        2 => {
-            let row = plan.instrument[j];
-            put_instrument(b, at, row, years)
-        }
         3 => {
             let outflows = plan.outflows;
             put_amounts_record(b, at, 3, &outflows, years)
@@ -160,10 +158,6 @@ fn put_record(b: &mut [u8], at: usize, plan: Plan, role: usize, j: usize) -> usi
         4 => {
             let rollover = plan.rollover;
             put_shares_record(b, at, 4, &rollover, plan.terms)
-        }
-        5 => {
-            let row = plan.pattern[j];
-            put_pattern(b, at, row, years)
         }
         6 => {
             let allocation = plan.allocation;
@@ -175,7 +169,8 @@ fn put_record(b: &mut [u8], at: usize, plan: Plan, role: usize, j: usize) -> usi
 
 // ---- the file
 
-// The plan's records, one after the other, from the front of the buffer on. The place after them.
+// The plan's records, one after the other, from the front of the buffer on. The place after them. The rows of instruments and patterns
+// are taken here, so that no plan is copied for each of them.
 fn put_file(b: &mut [u8], plan: Plan) -> usize
     requires { ⌜ InRange (shapeOf plan) ⌝ }
     requires { ⌜ Room (now b) 0 (fileOf (held plan)) ⌝ }
@@ -183,10 +178,27 @@ fn put_file(b: &mut [u8], plan: Plan) -> usize
 {
     let shape = plan::shape_of(plan);
     let count = planfile::count(shape);
+    let years = plan.years;
+    let instrument = plan.instrument;
+    let pattern = plan.pattern;
     let mut place = 0;
     for t in 0..count {
         let spot = planfile::spot_at(shape, t);
-        place = put_record(b, place, plan, spot.role, spot.index);
+        let role = spot.role;
+        let j = spot.index;
+        match role {
+            2 => {
+                let row = instrument[j];
+                place = put_instrument(b, place, row, years);
+            }
+            5 => {
+                let row = pattern[j];
+                place = put_pattern(b, place, row, years);
+            }
+            _ => {
+                place = put_record(b, place, plan, role, j);
+            }
+        }
     }
     place
 }
