@@ -117,15 +117,15 @@ fn constant_flow_of(plan: Plan) -> [i64; 30]
     v
 }
 
-// What all patterns of the plan share.
-fn common_of(plan: Plan) -> Common
+// What all patterns of the plan share, with the flow of Q, which the caller has made.
+fn common_of(plan: Plan, constant: [i64; 30]) -> Common
     requires { ⌜ Accepted (numbers plan) ⌝ }
+    requires { ⌜ constant ≡ constantArray (numbers plan) ⌝ }
     ensures { λ s. ⌜ s ≡ commonOf plan ⌝ }
 {
     let terms = plan.terms;
     let r = rollover_of(plan);
     let w = reckoning::weights(r, terms);
-    let constant_flow = constant_flow_of(plan);
     let p = plan.allocation;
     Common {
         years: plan.years,
@@ -134,7 +134,7 @@ fn common_of(plan: Plan) -> Common
         allocation: p,
         rollover: r,
         weights: w,
-        constantflow: constant_flow,
+        constantflow: constant,
     }
 }
 
@@ -315,7 +315,8 @@ pub fn fund(plan: Plan, t: usize) -> Reckoned
             fund: 0,
         };
     }
-    let common = common_of(plan);
+    let constant = constant_flow_of(plan);
+    let common = common_of(plan, constant);
     let payments = payments_of(plan);
     let flow = flow_of(common, &payments);
     let i = rates_of(plan, t);
@@ -351,7 +352,8 @@ pub fn form(plan: Plan, t: usize) -> FormAnswer
     if no != 0 {
         return no_form(no);
     }
-    let common = common_of(plan);
+    let constant = constant_flow_of(plan);
+    let common = common_of(plan, constant);
     let payments = payments_of(plan);
     let pattern = rates_of(plan, t);
     form_at(common, &payments, &pattern)
@@ -369,12 +371,10 @@ pub fn gammas(plan: Plan, t: usize) -> GammaTable
             rows: [none; 30],
         };
     }
-    let common = common_of(plan);
-    let r = common.rollover;
-    let w = common.weights;
-    let years = common.years;
-    let q = common.terms;
-    reckoning::gammas(r, w, rates_of(plan, t), years, q)
+    let terms = plan.terms;
+    let r = rollover_of(plan);
+    let w = reckoning::weights(r, terms);
+    reckoning::gammas(r, w, rates_of(plan, t), plan.years, terms)
 }
 
 // ---- the verdict
@@ -597,7 +597,8 @@ pub fn judge_accepted(plan: Plan) -> Judgement
     requires { ⌜ Accepted (numbers plan) ⌝ }
     ensures { λ s. ⌜ s ≡ judgementOf (numbers plan) ⌝ }
 {
-    let common = common_of(plan);
+    let constant = constant_flow_of(plan);
+    let common = common_of(plan, constant);
     let payments = payments_of(plan);
     judged(plan, common, &payments)
 }

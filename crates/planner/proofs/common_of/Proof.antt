@@ -8,21 +8,18 @@ use Rattle.planner.proofs.common_of.Statement.{statement}
 use Rattle.planner.proofs.common_of.Tie as tie
 
 rollover-of-requires : tie.Need-rollover-of-requires
-rollover-of-requires c κs = c .pre
+rollover-of-requires c κs = c .pre .0
 
 weights-requires : tie.Need-weights-requires
-weights-requires c κs = rw (c .rollover-of .ensures) (terms (c .before .args .plan) (c .before .pre))
-
-constant-flow-of-requires : tie.Need-constant-flow-of-requires
-constant-flow-of-requires c κs = c .before .before .pre
+weights-requires c κs = rw (c .rollover-of .ensures) (terms (c .before .args .plan) (c .before .pre .0))
 
 returns : tie.Need-returns
 unfolding commonOf
 returns c =
-    let d = c .before .before in
+    let d = c .before in
     let s = d .before .before in
-    let weights : d .weights .result ≡ weightsOf (numbers (s .args .plan) .r) = d .weights .ensures ∙ ap weightsOf (ap sharesOf (d .before .rollover-of .ensures) ∙ rollover-held (s .args .plan) (s .pre)) in
-    rw (d .before .rollover-of .ensures, weights, c .before .constant-flow-of .ensures)
+    let weights : d .weights .result ≡ weightsOf (numbers (s .args .plan) .r) = d .weights .ensures ∙ ap weightsOf (ap sharesOf (d .before .rollover-of .ensures) ∙ rollover-held (s .args .plan) (s .pre .0)) in
+    rw (d .before .rollover-of .ensures, weights, s .pre .1)
 
 pub common-of-spec : {M : Type 1} → statement M
 common-of-spec =
@@ -30,5 +27,4 @@ common-of-spec =
     (tie.spec
     rollover-of-requires
     weights-requires
-    constant-flow-of-requires
     returns)

@@ -21,14 +21,17 @@ module _ (c : tie.Else1) where
   ok : Called (c .before .before .args .plan) (c .before .before .args .t)
   ok = called _ _ none
 
+constant-flow-of-requires : tie.Need-constant-flow-of-requires
+constant-flow-of-requires c κs = ok c .plan-ok
+
 common-of-requires : tie.Need-common-of-requires
-common-of-requires c κs = ok c .plan-ok
+common-of-requires c κs = (ok (c .before) .plan-ok, c .constant-flow-of .ensures)
 
 payments-of-requires : tie.Need-payments-of-requires
-payments-of-requires c κs = ok (c .before) .plan-ok
+payments-of-requires c κs = ok (c .before .before) .plan-ok
 
 rates-of-requires : tie.Need-rates-of-requires
-rates-of-requires c κs = let o = ok (c .before .before) in (o .plan-ok, (o .some, o .few))
+rates-of-requires c κs = let o = ok (c .before .before .before) in (o .plan-ok, (o .some, o .few))
 
 -- what is prepared
 module _ (c : tie.After-rates-of) where
@@ -38,14 +41,14 @@ module _ (c : tie.After-rates-of) where
 form-at-requires : tie.Need-form-at-requires
 form-at-requires c κs =
     let r = c .before .before in
-    let o = ok (gathered r .before) .plan-ok in
+    let o = ok (gathered r .before .before) .plan-ok in
     (prepared-is _ o (gathered r .common-of .ensures) (r .before .payments-of .ensures), rates-ready _ o _ (r .rates-of .ensures))
 
 returns-2 : tie.Need-returns-2
 unfolding formAnswer
 returns-2 c =
     let r = c .before .before .before in
-    let e = gathered r .before in
+    let e = gathered r .before .before in
     let o = ok e .plan-ok in
     form-answered _ _ (out-accepted noForm (none e)
     (c .form-at .ensures ∙ ap₂ formReckoned (shared-is _ o (gathered r .common-of .ensures) (r .before .payments-of .ensures)) (rates-are _ o _ (r .rates-of .ensures))))
@@ -56,6 +59,7 @@ form-spec =
     (tie.spec
     (λ c κs. search needs) (λ c κs. search needs)
     returns
+    constant-flow-of-requires
     common-of-requires
     payments-of-requires
     rates-of-requires

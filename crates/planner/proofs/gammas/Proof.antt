@@ -1,12 +1,13 @@
 -- `planner::gammas` is the table of gammas in the pattern's rates.
-use mathlib.Core.Path.{_≡_, refl, sym, ap₂, _∙_}
+use mathlib.Core.Path.{_≡_, sym, ap, ap₂, _∙_, subst}
 use Prim.Native.Nat.{ℕ}
 use borrow.Author.Needs.{needs}
 use lib.IntN.{ℤ}
-use Rattle.reckoning.specs.Arrays.{gammasReckoned}
+use Rattle.reckoning.specs.Arrays.{sharesOf, Terms, gammasReckoned}
 use Rattle.plan.specs.Numbers.{numbers}
-use Rattle.planner.specs.Calls.{noGammas, Shared, callRefusal, gammasAnswer}
-use Rattle.planner.proofs.Held.{rates-ready, rates-are, prepared-is, shared-is, ready}
+use Rattle.plan.specs.declared.Plan.{Plan}
+use Rattle.planner.specs.Calls.{noGammas, callRefusal, gammasAnswer}
+use Rattle.planner.proofs.Held.{years, rollover-held, terms, rates-ready, rates-are}
 use Rattle.planner.proofs.Answers.{Called, called, out-refused, out-accepted}
 use Rattle.planner.proofs.gammas.Statement.{statement}
 use Rattle.planner.proofs.gammas.Tie as tie
@@ -23,32 +24,40 @@ module _ (c : tie.Else1) where
   ok : Called (c .before .before .args .plan) (c .before .before .args .t)
   ok = called _ _ none
 
-common-of-requires : tie.Need-common-of-requires
-common-of-requires c κs = ok c .plan-ok
+rollover-of-requires : tie.Need-rollover-of-requires
+rollover-of-requires c κs = ok c .plan-ok
+
+-- the rollover
+module _ (c : tie.After-rollover-of) where
+  abbrev plan : Plan
+  plan = c .before .before .before .args .plan
+
+  taken : Terms (plan .terms) (c .rollover-of .result)
+  taken = subst (Terms (plan .terms)) (sym (c .rollover-of .ensures)) (terms plan (ok (c .before) .plan-ok))
+
+  shares : sharesOf (c .rollover-of .result) ≡ numbers plan .r
+  shares = ap sharesOf (c .rollover-of .ensures) ∙ rollover-held plan (ok (c .before) .plan-ok)
+
+weights-requires : tie.Need-weights-requires
+weights-requires c κs = taken c
 
 rates-of-requires : tie.Need-rates-of-requires
-rates-of-requires c κs = let o = ok (c .before .before .before) in (o .plan-ok, (o .some, o .few))
-
--- what is prepared
-module _ (c : tie.After-rates-of) where
-  abbrev gathered : tie.After-common-of
-  gathered = c .before .before .before
+rates-of-requires c κs = let o = ok (c .before .before) in (o .plan-ok, (o .some, o .few))
 
 gammas-requires : tie.Need-gammas-requires
 gammas-requires c κs =
-    let g = gathered c in
-    let o = ok (g .before) .plan-ok in
-    let p = prepared-is _ o (g .common-of .ensures) refl in
-    (ready p (rates-ready _ o _ (c .rates-of .ensures)), p .years)
+    let r = c .before .before in
+    let o = ok (r .before) .plan-ok in
+    (record { terms = taken r; weights = c .before .weights .ensures; rates = rates-ready _ o _ (c .rates-of .ensures) }, years _ o)
 
 returns-2 : tie.Need-returns-2
 unfolding gammasAnswer
 returns-2 c =
-    let r = c .before in
-    let g = gathered r in
-    let o = ok (g .before) .plan-ok in
-    out-accepted noGammas (none (g .before))
-    (c .gammas .ensures ∙ ap₂ (λ (S : Shared) (i : ℕ → ℤ). gammasReckoned (S .r) i (S .years)) (shared-is _ o (g .common-of .ensures) refl) (rates-are _ o _ (r .rates-of .ensures)))
+    let i = c .before in
+    let r = i .before .before in
+    let e = r .before in
+    out-accepted noGammas (none e)
+    (c .gammas .ensures ∙ ap₂ (λ (s : ℕ → ℕ) (i : ℕ → ℤ). gammasReckoned s i (plan r .years)) (shares r) (rates-are _ (ok e .plan-ok) _ (i .rates-of .ensures)))
 
 pub gammas-spec : {M : Type 1} → statement M
 gammas-spec =
@@ -56,7 +65,8 @@ gammas-spec =
     (tie.spec
     (λ c κs. search needs)
     returns
-    common-of-requires
+    rollover-of-requires
+    weights-requires
     rates-of-requires
     gammas-requires
     returns-2)
