@@ -1,5 +1,5 @@
-/* The yearly reckoning of document 01 in plain C: the same checks in the same order, the same window of q terms, every flow of
- * every pattern reckoned once. Nothing is copied that C need not copy; the plan is passed by pointer. */
+/* The yearly reckoning of document 01, with the opening, in plain C: the same checks in the same order, the same window of q terms,
+ * every flow of every pattern reckoned once. Nothing is copied that C need not copy; the plan is passed by pointer. */
 #include "verdict.h"
 
 #include <stdbool.h>
@@ -11,7 +11,7 @@
 
 struct plan {
     size_t years, instruments, terms, patterns;
-    int64_t payments[16][30], outflows[30];
+    int64_t payments[16][30], outflows[30], opening[30]; /* the opening is 0 where the file has none */
     uint32_t rollover[30], rates[64][30], allocation[16];
 };
 
@@ -42,10 +42,11 @@ static bool from(size_t low, size_t high, size_t x)
     return low <= x && x <= high;
 }
 
-/* The kind of record t. */
-static size_t kind_of(size_t n, size_t m, size_t t)
+/* The kind of record t; `opened` is 1 where there is an opening, else 0. */
+static size_t kind_of(size_t n, size_t m, size_t opened, size_t t)
 {
-    return t == 0 ? 1 : t <= n ? 2 : t == n + 1 ? 3 : t == n + 2 ? 4 : t < n + m + 3 ? 5 : 6;
+    size_t last = n + 1 + opened; /* of the records with amounts */
+    return t == 0 ? 1 : t <= n ? 2 : t == n + 1 ? 3 : t == last ? 7 : t == last + 1 ? 4 : t < last + m + 2 ? 5 : 6;
 }
 
 static void amounts(int64_t *out, const uint8_t *body, size_t n)
@@ -73,17 +74,21 @@ static uint8_t read_plan(const uint8_t *file, size_t length, struct plan *plan)
     size_t N = file[4], n = file[5], q = file[6], m = file[7];
     if (!from(1, 30, N) || !from(1, 16, n) || !from(1, 30, q) || !from(1, 64, m))
         return 3;
-    size_t count = n + m + 4, at = 0;
-    for (size_t t = 0; t < count; t++) {
-        if (at == length || u16_at(file + at + 2) != kind_of(n, m, t))
+    size_t count = n + m + 4, opened = 0, at = 0;
+    for (size_t t = 0; t < count + opened; t++) {
+        if (at == length)
+            return 4;
+        if (t == n + 2 && u16_at(file + at + 2) == 7)
+            opened = 1;
+        if (u16_at(file + at + 2) != kind_of(n, m, opened, t))
             return 4;
         at += 4 + u16_at(file + at);
     }
     if (at != length)
         return 4;
-    const size_t sizes[] = {0, 4, 8 * N, 8 * N, 4 * q, 4 * (N - 1), 4 * n};
+    const size_t sizes[] = {0, 4, 8 * N, 8 * N, 4 * q, 4 * (N - 1), 4 * n, 8 * N};
     at = 0;
-    for (size_t t = 0; t < count; t++) {
+    for (size_t t = 0; t < count + opened; t++) {
         if (u16_at(file + at) != sizes[u16_at(file + at + 2)])
             return 5;
         at += 4 + u16_at(file + at);
@@ -97,6 +102,11 @@ static uint8_t read_plan(const uint8_t *file, size_t length, struct plan *plan)
         amounts(plan->payments[j], body, N);
     amounts(plan->outflows, body, N);
     body += 4 + 8 * N;
+    memset(plan->opening, 0, sizeof plan->opening);
+    if (opened) {
+        amounts(plan->opening, body, N);
+        body += 4 + 8 * N;
+    }
     shares(plan->rollover, body, q);
     body += 4 + 4 * q;
     for (size_t t = 0; t < m; t++, body += 4 + 4 * (N - 1))
@@ -127,7 +137,7 @@ static uint8_t check_plan(const struct plan *plan)
     for (size_t j = 0; j < plan->instruments; j++)
         if (!within(plan->payments[j], plan->years, 0, MOST))
             return 6;
-    if (!within(plan->outflows, plan->years, -MOST, MOST))
+    if (!within(plan->outflows, plan->years, -MOST, MOST) || !within(plan->opening, plan->years, 0, MOST))
         return 6;
     if (sum(plan->rollover, plan->terms) != MILLION)
         return 7;
@@ -185,8 +195,8 @@ static int64_t bound(const int64_t *i, size_t n)
     return g + (int64_t)n;
 }
 
-/* What one pattern comes to. */
-static uint8_t reckon(const struct plan *plan, const int64_t *flow, const int64_t *outflow, const int64_t *r, const int64_t *w,
+/* What one pattern comes to; `net` is the opening less the outflows. */
+static uint8_t reckon(const struct plan *plan, const int64_t *flow, const int64_t *net, const int64_t *r, const int64_t *w,
                       const uint32_t *rates, struct row *row)
 {
     size_t N = plan->years, n = plan->instruments, q = plan->terms;
@@ -198,7 +208,7 @@ static uint8_t reckon(const struct plan *plan, const int64_t *flow, const int64_
     for (size_t j = 0; j < n; j++)
         if (fund(plan->payments[j], r, w, i, N, q, &row->coefficients[j]))
             return 11;
-    if (fund(outflow, r, w, i, N, q, &row->constant))
+    if (fund(net, r, w, i, N, q, &row->constant))
         return 11;
     row->bound = bound(i, N);
     row->word = row->fund >= 0 ? 1 : row->fund + row->bound <= 0 ? 2 : 3;
@@ -223,7 +233,7 @@ uint8_t c_verdict(const uint8_t *file, size_t length, uint8_t words[static 64], 
     if (no)
         return refused(no, words, shorts, word);
     size_t N = plan.years, n = plan.instruments, q = plan.terms, m = plan.patterns;
-    int64_t r[30] = {0}, w[30] = {0}, flow[30], outflow[30], left = MILLION;
+    int64_t r[30] = {0}, w[30] = {0}, flow[30], net[30], left = MILLION;
     for (size_t d = 0; d < q; d++) {
         r[d] = plan.rollover[d];
         w[d] = left;
@@ -233,11 +243,11 @@ uint8_t c_verdict(const uint8_t *file, size_t length, uint8_t words[static 64], 
         int64_t s = 0;
         for (size_t j = 0; j < n; j++)
             s += plan.payments[j][k] * (int64_t)plan.allocation[j];
-        flow[k] = down(s) - plan.outflows[k];
-        outflow[k] = -plan.outflows[k];
+        net[k] = plan.opening[k] - plan.outflows[k];
+        flow[k] = down(s) + net[k];
     }
     for (size_t t = 0; t < m; t++)
-        if (reckon(&plan, flow, outflow, r, w, plan.rates[t], &rows[t]))
+        if (reckon(&plan, flow, net, r, w, plan.rates[t], &rows[t]))
             return refused(11, words, shorts, word);
     bool solvent = true;
     memset(words, 0, 64);

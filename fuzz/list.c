@@ -257,11 +257,11 @@ static int record(const uint8_t *data, size_t size, size_t at, size_t *length)
 /* Amounts and rates go into their ranges, and shares are made to sum to 1,000,000 by the last one. */
 static void put_right(unsigned kind, uint8_t *body, size_t length)
 {
-    for (size_t k = 0; (kind == 2 || kind == 3) && k + 8 <= length; k += 8) {
+    for (size_t k = 0; (kind == 2 || kind == 3 || kind == 7) && k + 8 <= length; k += 8) {
         int64_t amount;
         memcpy(&amount, body + k, 8);
         amount %= 20000000001;
-        if (kind == 2 && amount < 0)
+        if (kind != 3 && amount < 0)
             amount = -amount;
         memcpy(body + k, &amount, 8);
     }

@@ -8,8 +8,8 @@
  *
  * A plan file goes in as bytes (any bytes: what is no plan file is refused), and the answer comes back in lent buffers. Each call
  * answers a refusal: PLANNER_ACCEPTED, or the number of the first check that fails. On a refusal every number of the answer is 0;
- * entries past the plan's own years, instruments, terms and patterns are always 0. Amounts are whole numbers in the unit of the
- * file, shares and rates are millionths. */
+ * entries past the plan's own years, instruments, terms and patterns, and those of an opening that it does not hold, are always 0.
+ * Amounts are whole numbers in the unit of the file, shares and rates are millionths. */
 #ifndef PLANNER_H
 #define PLANNER_H
 
@@ -50,7 +50,7 @@ enum planner_refusal {
     PLANNER_HEAD = 3,            /* the head is missing or not four bytes, or a number in it is outside its range */
     PLANNER_KINDS = 4,           /* the sequence of kinds is not that of a plan */
     PLANNER_LENGTH = 5,          /* a record's length is not what its kind and the head require */
-    PLANNER_AMOUNT = 6,          /* a payment or an outflow is outside its range */
+    PLANNER_AMOUNT = 6,          /* a payment, an outflow or an amount of the opening is outside its range */
     PLANNER_ROLLOVER = 7,        /* the rollover shares do not sum to 1,000,000 */
     PLANNER_RATE = 8,            /* a rate is below 0 or above 200,000 */
     PLANNER_ALLOCATION = 9,      /* the allocation does not sum to 1,000,000 */
@@ -67,15 +67,19 @@ enum planner_word {
 };
 
 /* A plan held as values goes over this border in four arrays, one for each width of number. The arrays have these places; a field that a
- * plan gains takes places after the last, so that no call's parameters and no place here ever change, and only the sizes grow.
+ * plan gains takes places after the last, so that no call's parameters and no place here ever change, and only the sizes grow. A program
+ * that makes a plan begins with zeros: a field that it does not know is then one that the plan does not hold.
  *
- * counts: N, n, q and m. */
-#define PLANNER_COUNTS 4
-/* amounts: the payments, a row of PLANNER_YEARS for each instrument, then the outflows. What instrument j + 1 pays in year k + 1 per
- * 1,000,000,000 put in stands at PLANNER_AT_PAYMENTS + j * PLANNER_YEARS + k. */
+ * counts: N, n, q and m, then `opened`: 0 where the plan holds no opening, any other number where it does. planner_read answers 0
+ * or 1. */
+#define PLANNER_COUNTS 5
+/* amounts: the payments, a row of PLANNER_YEARS for each instrument, then the outflows, then the opening. What instrument j + 1 pays in
+ * year k + 1 per 1,000,000,000 put in stands at PLANNER_AT_PAYMENTS + j * PLANNER_YEARS + k. The opening is what money already invested
+ * pays in each year; what stands at its places while `opened` is 0 plays no part. */
 #define PLANNER_AT_PAYMENTS 0
 #define PLANNER_AT_OUTFLOWS 480
-#define PLANNER_AMOUNTS 510
+#define PLANNER_AT_OPENING 510
+#define PLANNER_AMOUNTS 540
 /* shares: the rollover, then the allocation. */
 #define PLANNER_AT_ROLLOVER 0
 #define PLANNER_AT_ALLOCATION 30
@@ -89,7 +93,7 @@ struct planner_plan {
     PLANNER_EXTENSION union {
         size_t counts[PLANNER_COUNTS];
         PLANNER_EXTENSION struct {
-            size_t years, instruments, terms, patterns;
+            size_t years, instruments, terms, patterns, opened;
         };
     };
     PLANNER_EXTENSION union {
@@ -97,6 +101,7 @@ struct planner_plan {
         PLANNER_EXTENSION struct {
             int64_t payments[PLANNER_INSTRUMENTS][PLANNER_YEARS];
             int64_t outflows[PLANNER_YEARS];
+            int64_t opening[PLANNER_YEARS];
         };
     };
     PLANNER_EXTENSION union {
@@ -123,8 +128,8 @@ uint8_t planner_read(const uint8_t *file, size_t file_length,
                      size_t counts[PLANNER_AT_LEAST(PLANNER_COUNTS)], int64_t amounts[PLANNER_AT_LEAST(PLANNER_AMOUNTS)],
                      uint32_t shares[PLANNER_AT_LEAST(PLANNER_SHARES)], int32_t rates[PLANNER_AT_LEAST(PLANNER_RATES)]);
 
-/* The file of a plan, into the first bytes of `buffer`, and its length. What the arrays hold past the plan's own numbers plays no
- * part. Refusals 3, 6 to 9 and 12; on a refusal the buffer is untouched and the length is 0. */
+/* The file of a plan, into the first bytes of `buffer`, and its length. What the arrays hold past the plan's own numbers, or for an
+ * opening that it does not hold, plays no part. Refusals 3, 6 to 9 and 12; on a refusal the buffer is untouched and the length is 0. */
 uint8_t planner_write(const size_t counts[PLANNER_AT_LEAST(PLANNER_COUNTS)], const int64_t amounts[PLANNER_AT_LEAST(PLANNER_AMOUNTS)],
                       const uint32_t shares[PLANNER_AT_LEAST(PLANNER_SHARES)], const int32_t rates[PLANNER_AT_LEAST(PLANNER_RATES)],
                       uint8_t *buffer, size_t buffer_length, size_t *length);

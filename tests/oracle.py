@@ -1,4 +1,5 @@
-"""Document 01 in unbounded whole numbers: what a plan file is read as, what each call answers, what the program prints.
+"""Document 01, with the money already invested of document 02, in unbounded whole numbers: what a plan file is read as, what each
+call answers, what the program prints.
 
 Written from the papers alone. It is slow and plain on purpose: every sum is the paper's sum, and nothing is cut short.
 """
@@ -18,11 +19,13 @@ class Refused(Exception):
 
 
 class Plan:
-    """N, n, q, m, and a_kj, o_k, r_j, i_k of pattern t, p_j by the paper's indices, from 1; i_k from 2."""
+    """N, n, q, m, and a_kj, o_k, b_k, r_j, i_k of pattern t, p_j by the paper's indices, from 1; i_k from 2. b_k is what the money
+    already invested pays: a_k0 of equation 2' in document 004."""
 
-    def __init__(self, payments, outflows, rollover, rates, allocation):
+    def __init__(self, payments, outflows, rollover, rates, allocation, opening=None):
         self.payments = payments      # a list for each instrument
         self.outflows = outflows
+        self.opening = opening        # begins with b_1; None where the record is not held
         self.rollover = rollover
         self.rates = rates            # a list for each pattern, which begins with i_2
         self.allocation = allocation
@@ -38,6 +41,9 @@ class Plan:
     def o(self, k):
         return self.outflows[k - 1]
 
+    def b(self, k):
+        return 0 if self.opening is None else self.opening[k - 1]
+
     def r(self, j):
         return self.rollover[j - 1] if j <= self.q else 0
 
@@ -49,12 +55,14 @@ class Plan:
 
 
 class Values:
-    """A plan held as values: N, n, q and m, any numbers, and arrays of the largest sizes."""
+    """A plan held as values: N, n, q, m and whether it holds an opening, any numbers, and arrays of the largest sizes."""
 
-    def __init__(self, head, payments, outflows, rollover, rates, allocation):
+    def __init__(self, head, payments, outflows, rollover, rates, allocation, opened, opening):
         self.head = head
+        self.opened = opened          # 0 where it holds none
         self.payments = payments      # 16 rows of 30
         self.outflows = outflows      # 30
+        self.opening = opening        # 30
         self.rollover = rollover      # 30
         self.rates = rates            # 64 rows of 30
         self.allocation = allocation  # 16
@@ -77,6 +85,10 @@ def records(data):
     return found
 
 
+def record(kind, body):
+    return struct.pack("<HH", len(body), kind) + body
+
+
 def numbers(body, width, signed=False):
     return [int.from_bytes(body[k:k + width], "little", signed=signed) for k in range(0, len(body), width)]
 
@@ -90,9 +102,11 @@ def read(data):
         raise Refused(3)
     N, n, q, m = found[0][1]
     head(N, n, q, m)
-    if [kind for kind, _ in found] != [1] + [2] * n + [3, 4] + [5] * m + [6]:
+    kinds = [kind for kind, _ in found]
+    opened = 7 in kinds
+    if kinds != [1] + [2] * n + [3] + [7] * opened + [4] + [5] * m + [6]:
         raise Refused(4)
-    size = {1: 4, 2: 8 * N, 3: 8 * N, 4: 4 * q, 5: 4 * (N - 1), 6: 4 * n}
+    size = {1: 4, 2: 8 * N, 3: 8 * N, 4: 4 * q, 5: 4 * (N - 1), 6: 4 * n, 7: 8 * N}
     if any(len(body) != size[kind] for kind, body in found):
         raise Refused(5)
     bodies = {kind: [body for other, body in found if other == kind] for kind in size}
@@ -102,6 +116,7 @@ def read(data):
         numbers(bodies[4][0], 4),
         [numbers(body, 4) for body in bodies[5]],
         numbers(bodies[6][0], 4),
+        numbers(bodies[7][0], 8, True) if opened else None,
     )
     check(plan)
     return plan
@@ -118,6 +133,8 @@ def check(plan):
     most = 20 * 10 ** 9
     if any(not 0 <= x <= most for row in plan.payments for x in row) or any(not -most <= x <= most for x in plan.outflows):
         raise Refused(6)
+    if any(not 0 <= plan.b(k) <= most for k in years(plan)):
+        raise Refused(6)
     if sum(plan.rollover) != MILLION:
         raise Refused(7)
     if any(rate > 200000 for row in plan.rates for rate in row):
@@ -129,22 +146,24 @@ def check(plan):
 def write(plan):
     """The one file that is read as the plan."""
 
-    def record(kind, code, values):
-        body = struct.pack(f"<{len(values)}{code}", *values)
-        return struct.pack("<HH", len(body), kind) + body
+    def packed(kind, code, values):
+        return record(kind, struct.pack(f"<{len(values)}{code}", *values))
 
-    out = record(1, "B", [plan.N, plan.n, plan.q, plan.m])
+    out = packed(1, "B", [plan.N, plan.n, plan.q, plan.m])
     for row in plan.payments:
-        out += record(2, "q", row)
-    out += record(3, "q", plan.outflows)
-    out += record(4, "I", plan.rollover)
+        out += packed(2, "q", row)
+    out += packed(3, "q", plan.outflows)
+    if plan.opening is not None:
+        out += packed(7, "q", plan.opening)
+    out += packed(4, "I", plan.rollover)
     for row in plan.rates:
-        out += record(5, "I", row)
-    return out + record(6, "I", plan.allocation)
+        out += packed(5, "I", row)
+    return out + packed(6, "I", plan.allocation)
 
 
 def held(values):
-    """The plan of values; checks 3 and 6 to 9. What stands past its N, n, q and m plays no part."""
+    """The plan of values; checks 3 and 6 to 9. What stands past its N, n, q and m plays no part, nor what stands for an opening that
+    it does not hold."""
     head(*values.head)
     N, n, q, m = values.head
     plan = Plan(
@@ -153,6 +172,7 @@ def held(values):
         values.rollover[:q],
         [row[:N - 1] for row in values.rates[:m]],
         values.allocation[:n],
+        values.opening[:N] if values.opened else None,
     )
     check(plan)
     return plan
@@ -187,7 +207,7 @@ def taken(x):
 
 def flow(plan):
     """The allocation's flow, years 1 to N."""
-    return {k: sum(plan.a(k, j) * plan.p(j) for j in range(1, plan.n + 1)) // MILLION - plan.o(k) for k in years(plan)}
+    return {k: sum(plan.a(k, j) * plan.p(j) for j in range(1, plan.n + 1)) // MILLION + plan.b(k) - plan.o(k) for k in years(plan)}
 
 
 def years(plan):
@@ -216,7 +236,7 @@ def fund(plan, t, flow):
 
 def exact(plan, t):
     """H: the exact fund is H / 10^(12 N)."""
-    x = {k: sum(plan.a(k, j) * plan.p(j) for j in range(1, plan.n + 1)) - MILLION * plan.o(k) for k in years(plan)}
+    x = {k: sum(plan.a(k, j) * plan.p(j) for j in range(1, plan.n + 1)) + MILLION * (plan.b(k) - plan.o(k)) for k in years(plan)}
     E = {}
     for k in range(2, plan.N + 2):
         E[k] = x[k - 1] * 10 ** (12 * (k - 2)) + sum(
@@ -244,7 +264,7 @@ def pattern(plan, t):
 def form(plan, t):
     """K_1 to K_n, Q, and the value at the plan's allocation."""
     K = [fund(plan, t, {k: plan.a(k, j) for k in years(plan)}) for j in range(1, plan.n + 1)]
-    Q = fund(plan, t, {k: -plan.o(k) for k in years(plan)})
+    Q = fund(plan, t, {k: plan.b(k) - plan.o(k) for k in years(plan)})
     return K, Q, sum(x * p for x, p in zip(K, plan.allocation)) // MILLION + Q
 
 
@@ -285,6 +305,27 @@ def listing(data):
     except Refused as refusal:
         return f"refused {refusal.number}\n"
     return printed(rows, plan_word)
+
+
+# ---- what is refused through the opening
+
+
+def refusal(call, *given):
+    """The number of the refusal that a call comes to; 0 if it is accepted."""
+    try:
+        call(*given)
+    except Refused as refused:
+        return refused.number
+    return 0
+
+
+def through_opening(data):
+    """4, 5 or 6 where a file is refused so for its records of kind 7 alone: without them it gets none of these three. Else 0."""
+    number = refusal(read, data)
+    if number not in (4, 5, 6):
+        return 0
+    left = b"".join(record(kind, body) for kind, body in records(data) if kind != 7)
+    return 0 if refusal(read, left) in (4, 5, 6) else number
 
 
 # ---- demand 3

@@ -1,11 +1,9 @@
 """Plans from a seed, and damaged files.
 
-Sizes go over all of N, n, q and m; notes are plain or odd; outflows are matched to the flow, so that funds lie within a few
-units of zero and loans roll into loans to the last year; rates are level, rising or wild; amounts lie at the ends of their
-ranges, and cells and funds at 10^12 and one past it, on both sides of zero.
+Sizes go over all of N, n, q and m; notes are plain or odd; half of the plans hold an opening; outflows are matched to the flow,
+so that funds lie within a few units of zero and loans roll into loans to the last year; rates are level, rising or wild; amounts
+lie at the ends of their ranges, and cells and funds at 10^12 and one past it, on both sides of zero.
 """
-import struct
-
 import oracle
 
 MOST = 20 * 10 ** 9
@@ -35,6 +33,17 @@ def note(rng, N):
         return [oracle.share(face, coupon) + (face if k == end else 0) if k <= end else 0 for k in range(1, N + 1)]
     top = rng.choice([1, 10, 10 ** 6, 10 ** 9, MOST])
     return [rng.choice([0, top, rng.randint(0, top)]) for _ in range(N)]
+
+
+def opening(rng, N):
+    """What older notes still pay, or as often None: like a note, now and then with the most in one year, or zeros."""
+    if rng.random() < 0.5:
+        return None
+    kind = rng.random()
+    amounts = [0] * N if kind < 0.1 else note(rng, N)
+    if kind > 0.8:
+        amounts[rng.randrange(N)] = MOST
+    return amounts
 
 
 def pattern(rng, N):
@@ -70,7 +79,8 @@ def plain(rng):
         outflows = [rng.randint(-top, top) for _ in range(N)]
     else:
         outflows = [top] + [0] * (N - 1)
-    plan = oracle.Plan([note(rng, N) for _ in range(n)], outflows, parts(rng, q), [pattern(rng, N) for _ in range(m)], parts(rng, n))
+    plan = oracle.Plan([note(rng, N) for _ in range(n)], outflows, parts(rng, q), [pattern(rng, N) for _ in range(m)], parts(rng, n),
+                       opening(rng, N))
     return matched(rng, plan) if rng.random() < 0.7 else plan
 
 
@@ -79,15 +89,16 @@ def largest(rng):
     N, n, q, m = 30, 16, 30, 64
     outflows = [rng.randint(-10 ** 8, 10 ** 8) for _ in range(N)]
     payments = [[rng.randint(0, 10 ** 8) for _ in range(N)] for _ in range(n)]
-    return matched(rng, oracle.Plan(payments, outflows, parts(rng, q), [pattern(rng, N) for _ in range(m)], parts(rng, n)))
+    older = rng.choice([None, [rng.randint(0, 10 ** 8) for _ in range(N)]])
+    return matched(rng, oracle.Plan(payments, outflows, parts(rng, q), [pattern(rng, N) for _ in range(m)], parts(rng, n), older))
 
 
 def at_the_limit(rng):
-    """In one of the patterns one flow, that of the allocation, an instrument or the outflows, comes to 10^12 or -10^12, or past it:
-    its fund and its last cell (all is rolled over every year), its fund and no cell (nothing is before the horizon), or its last
-    cell but one and not its fund."""
+    """In one of the patterns one flow, that of the allocation, an instrument or Q, comes to 10^12 or -10^12, or past it: its fund
+    and its last cell (all is rolled over every year), its fund and no cell (nothing is before the horizon), or its last cell but one
+    and not its fund. In half of the plans an opening has its part in the flow."""
     N, m = rng.randint(24, 30), rng.randint(1, 3)
-    whose = rng.choice(["allocation", "instrument", "outflows"])
+    whose = rng.choice(["allocation", "instrument", "Q"])
     where = rng.choice(["cell and fund", "fund"] + ["cell"] * (whose != "instrument"))
     sign = 1 if whose == "instrument" else rng.choice([1, -1])
     rates = [[0] * (N - 1) for _ in range(m)]
@@ -113,9 +124,13 @@ def at_the_limit(rng):
     else:
         # where payments can see to it, the other flows stay away from the limit
         near = whose, sign
-        paid = step // 2 if near == ("allocation", 1) else -step if near == ("outflows", -1) else 0
+        paid = step // 2 if near == ("allocation", 1) else -step if near == ("Q", -1) else 0
         plan.payments[1] = [paid] * N
-        plan.outflows = [-y for y in x] if whose == "outflows" else [paid - y for y in x]
+        plan.outflows = [-y for y in x] if whose == "Q" else [paid - y for y in x]
+    if rng.random() < 0.5:
+        # all that comes in, or any amounts; the outflows rise by as much, and no flow changes
+        plan.opening = rng.choice([[max(0, -o) for o in plan.outflows], [rng.randint(0, 10 ** 10) for _ in range(N)]])
+        plan.outflows = [o + b for o, b in zip(plan.outflows, plan.opening)]
     return plan
 
 
@@ -134,10 +149,10 @@ def spoil(rng, plan, check):
         else:
             of[j] += rng.choice([1, oracle.MILLION])
 
-    if check == 6 and rng.random() < 0.5:
-        rng.choice(plan.payments)[rng.randrange(plan.N)] = rng.choice([-1, MOST + 1, 2 ** 63 - 1, -2 ** 63])
-    elif check == 6:
-        plan.outflows[rng.randrange(plan.N)] = rng.choice([-MOST - 1, MOST + 1, 2 ** 63 - 1, -2 ** 63])
+    if check == 6:
+        row = rng.choice([rng.choice(plan.payments), plan.outflows] + [plan.opening] * (plan.opening is not None))
+        low = -MOST if row is plan.outflows else 0
+        row[rng.randrange(plan.N)] = rng.choice([low - 1, MOST + 1, 2 ** 63 - 1, -2 ** 63])
     elif check == 7:
         shares(plan.rollover)
     elif check == 8 and plan.N > 1:
@@ -155,7 +170,8 @@ def outside(rng):
 
 
 def values(rng, plan):
-    """The plan held as values, with anything past its N, n, q and m; now and then one number of the head is outside its range."""
+    """The plan held as values, with anything past its N, n, q and m, and for an opening that it does not hold; now and then one
+    number of the head is outside its range."""
     kind = rng.randint(1, 4)
 
     def rest(amount):
@@ -179,13 +195,34 @@ def values(rng, plan):
         at = rng.randrange(4)
         top = [30, 16, 30, 64][at]
         head[at] = rng.choice([0, top + 1, 2 ** 8 + head[at], 2 ** 32 + head[at], 2 ** 40, 2 ** 64 - 1])
+    opened = 0 if plan.opening is None else rng.choice([1, 2, 2 ** 32, 2 ** 64 - 1])
     return oracle.Values(head, rows(plan.payments, 16, True), filled(plan.outflows, 30, True), filled(plan.rollover, 30),
-                         rows(plan.rates, 64), filled(plan.allocation, 16))
+                         rows(plan.rates, 64), filled(plan.allocation, 16), opened, filled(plan.opening or [], 30, True))
+
+
+def place(found, kind):
+    """Where the first record of a kind stands; the end if there is none."""
+    return next((at for at, (other, _) in enumerate(found) if other == kind), len(found))
+
+
+def misplaced(rng, found, N):
+    """The opening, or another if there is none, where none may stand: at the front, before the outflows, after the rollover, at the
+    end; or twice."""
+    body = dict(found).get(7, bytes(8 * N))
+    found = [one for one in found if one[0] != 7]
+    right = place(found, 4)
+    places = [rng.choice([0, place(found, 3), right + 1, len(found), right])]
+    if places == [right] or rng.random() < 0.3:
+        places.append(right)
+    for at in sorted(places, reverse=True):
+        found.insert(at, (7, body))
+    return found
 
 
 def damaged(rng, data):
-    """A file cut, padded, with a byte changed, or with records swapped, dropped, doubled or of another length."""
-    kind = rng.randint(1, 8)
+    """A file cut, padded, with a byte changed, or with records swapped, dropped, doubled, of another length or of another kind, or
+    with an opening at a wrong place."""
+    kind = rng.randint(1, 10)
     if kind == 1:
         return data[:rng.randrange(len(data))]
     if kind == 2:
@@ -198,16 +235,22 @@ def damaged(rng, data):
     if kind == 5:
         return data[:4] + bytes([rng.choice([0, 1, 17, 31, 65, 255]) if k == 0 else x for k, x in enumerate(data[4:8])]) + data[8:]
     found = oracle.records(data)
-    for kind in [kind] + [rng.randint(6, 8) for _ in range(rng.choice([0, 1]))]:
+    for kind in [kind] + [rng.randint(6, 10) for _ in range(rng.choice([0, 1]))]:
         i, j = rng.randrange(len(found)), rng.randrange(len(found))
+        if place(found, 7) < len(found) and rng.random() < 0.5:
+            i = place(found, 7)
+        kind_i, body = found[i]
         if kind == 6:
             found[i], found[j] = found[j], found[i]
         elif kind == 7:
             found[i:i + 1] = rng.choice([[], [found[i]] * 2])
-        else:
-            kind_i, body = found[i]
+        elif kind == 8:
             found[i] = (kind_i, rng.choice([body[:-1], body + b"\0", body[:-4], body + bytes(4), body + bytes(8)]))
-    return b"".join(struct.pack("<HH", len(body), kind) + body for kind, body in found)
+        elif kind == 9:
+            found = misplaced(rng, found, data[4])
+        else:
+            found[i] = (rng.choice([8, 0, 3, 263]) if kind_i == 7 else 7, body)
+    return b"".join(oracle.record(kind, body) for kind, body in found)
 
 
 def file(rng):

@@ -1,5 +1,6 @@
 -- The arrays of a plan hold that plan.
 use mathlib.Core.Path.{_≡_, refl, sym, ap, _∙_}
+use mathlib.Core.Bool.{Bool, true, false}
 use mathlib.Core.Logic.{⊎-elim}
 use mathlib.Core.List.{List, [], _++_}
 use Prim.Native.Nat.{ℕ, zero, suc, _+_, _*_, _≤_, _<_}
@@ -7,17 +8,19 @@ use native.Mathlib.Nat.{not-suc-le-zero}
 use native.Mathlib.Omega.{arith}
 use lib.ListN.{length, getD, drop, length-append, length-drop}
 use lib.Seq.{take-all, take-at, take-append-le, drop-at, drop-append-le, ext-getD}
+use lib.Dec.{ltb}
 use lib.IntN.{ℤ}
 use Rattle.whole.specs.Table.{table}
 use Rattle.whole.proofs.Laws.{ℕ-cases}
 use Rattle.whole.proofs.Table.{length-table, table-at, table-each}
+use Rattle.whole.proofs.Test.{pick-few}
 use Rattle.plan.specs.declared.Instrument.{Instrument}
 use Rattle.plan.specs.declared.Pattern.{Pattern}
 use Rattle.plan.specs.declared.Plan.{Plan}
-use Rattle.plan.specs.Held.{Held, instrumentAt, patternAt, noInstrument, noPattern, planFrom}
+use Rattle.plan.specs.Held.{Held, flag, instrumentAt, patternAt, noInstrument, noPattern, planFrom}
 use Rattle.plan.specs.Numbers.{meaning}
 use Rattle.plan.specs.Refusal.{Head}
-use Rattle.arrays.specs.Arrays.{joined, valuesAt, outflowsFrom, allocationFrom, allCounts, allAmounts, allShares, allRates, instrumentsOf, patternsOf, planOfArrays}
+use Rattle.arrays.specs.Arrays.{joined, valuesAt, outflowsFrom, openingFrom, allocationFrom, allCounts, allAmounts, allShares, allRates, instrumentsOf, patternsOf, planOfArrays}
 
 -- ---- parts
 module _ {A : Type 0} where
@@ -55,6 +58,10 @@ rows-again make none n rows xs count same =
     let few = length-table n n (λ j. make (valuesAt xs (30 * j) 30)) none (omega arith) in
     ext-getD (make []) _ rows (few ∙ sym count) (λ j l. let h : j < n = omega (arith, few) in table-at n n _ none (make []) j h (omega arith) ∙ same j h)
 
+flag-again : (b : Bool) → ltb 0 (flag b) ≡ b
+flag-again true = refl
+flag-again false = refl
+
 -- ---- a plan whose arrays have their lengths
 pub record Sized (p : Plan) : Type 0 where
   pub instruments : length (p .instrument) ≡ 16
@@ -64,6 +71,7 @@ pub record Sized (p : Plan) : Type 0 where
   pub patterns : length (p .pattern) ≡ 64
   pub rates : (t : ℕ) → t < 64 → length (patternAt p t .rates) ≡ 30
   pub allocation : length (p .allocation) ≡ 16
+  pub opening : length (p .opening) ≡ 30
 
 module _ (p : Plan) (s : Sized p) where
   abbrev paid : (j : ℕ) → List ℤ
@@ -72,16 +80,30 @@ module _ (p : Plan) (s : Sized p) where
   paid-long : length (joined 16 paid) ≡ outflowsFrom
   paid-long = length-joined paid 16 (s .payments)
 
+  -- the amounts before the money already invested
+  abbrev flows : List ℤ
+  flows = joined 16 paid ++ p .outflows
+
+  flows-long : length flows ≡ openingFrom
+  flows-long = length-append (joined 16 paid) (p .outflows) ∙ omega (arith, paid-long, s .outflows)
+
   instruments-again : instrumentsOf (allAmounts p) ≡ p .instrument
   unfolding instrumentsOf allAmounts
   instruments-again =
       rows-again (λ (l : List ℤ). record { payments = l }) noInstrument 16 (p .instrument) _ (s .instruments)
       (λ j h. ap (λ (l : List ℤ). record { payments = l })
-      (part-first (joined 16 paid) (p .outflows) (30 * j) 30 (omega (arith, paid-long)) ∙ part-joined paid 16 (s .payments) j h))
+      (part-first flows (p .opening) (30 * j) 30 (omega (arith, flows-long))
+      ∙ part-first (joined 16 paid) (p .outflows) (30 * j) 30 (omega (arith, paid-long)) ∙ part-joined paid 16 (s .payments) j h))
 
   outflows-again : valuesAt (allAmounts p) outflowsFrom 30 ≡ p .outflows
   unfolding allAmounts
-  outflows-again = part-second (joined 16 paid) (p .outflows) outflowsFrom 30 paid-long (s .outflows)
+  outflows-again =
+      part-first flows (p .opening) outflowsFrom 30 (omega (arith, flows-long))
+      ∙ part-second (joined 16 paid) (p .outflows) outflowsFrom 30 paid-long (s .outflows)
+
+  opening-again : valuesAt (allAmounts p) openingFrom 30 ≡ p .opening
+  unfolding allAmounts
+  opening-again = part-second flows (p .opening) openingFrom 30 flows-long (s .opening)
 
   patterns-again : patternsOf (allRates p) ≡ p .pattern
   unfolding patternsOf allRates
@@ -92,7 +114,7 @@ module _ (p : Plan) (s : Sized p) where
   pub plan-again : planOfArrays (allCounts p) (allAmounts p) (allShares p) (allRates p) ≡ p
   unfolding planOfArrays valuesAt
   plan-again =
-      rw (instruments-again, outflows-again, patterns-again)
+      rw (instruments-again, outflows-again, opening-again, patterns-again, flag-again (p .opened))
       (rw (take-at (p .rollover) (p .allocation) 30 (s .rollover), part-second (p .rollover) (p .allocation) allocationFrom 16 (s .rollover) (s .allocation)))
 
 -- the plan of what is held is such a plan
@@ -108,6 +130,7 @@ sized-from H few = record {
   rates =
       table-each (λ (r : Pattern). length (r .rates) ≡ 30) 64 _ _ _ _ (few .patterns-few) refl (λ t h. length-table 30 _ _ _ (omega (arith, few .years-few)));
   allocation = length-table 16 _ _ _ (few .instruments-few);
+  opening = length-table 30 _ _ _ (omega (arith, few .years-few, pick-few (H .shape .opened) (H .shape .years)));
 }
 
 pub from-again : (H : Held) → Head (meaning H) → let p = planFrom H in planOfArrays (allCounts p) (allAmounts p) (allShares p) (allRates p) ≡ p

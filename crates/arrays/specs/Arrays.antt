@@ -2,6 +2,7 @@
 -- other, and so do the rows of a table.
 use mathlib.Core.List.{List, [], _∷_, _++_}
 use Prim.Native.Nat.{ℕ, zero, suc, _*_}
+use lib.Dec.{ltb}
 use lib.IntN.{ℤ}
 use lib.ListN.{getD, take, drop}
 use Rattle.whole.specs.Table.{table}
@@ -9,7 +10,7 @@ use Rattle.reckoning.specs.declared.Row.{Row}
 use Rattle.plan.specs.declared.Instrument.{Instrument}
 use Rattle.plan.specs.declared.Pattern.{Pattern}
 use Rattle.plan.specs.declared.Plan.{Plan}
-use Rattle.plan.specs.Held.{instrumentAt, patternAt, noInstrument, noPattern}
+use Rattle.plan.specs.Held.{flag, instrumentAt, patternAt, noInstrument, noPattern}
 
 module _ {A : Type 0} where
   -- n rows, one after the other
@@ -22,20 +23,23 @@ module _ {A : Type 0} where
   valuesAt xs at n = take n (drop at xs)
 
 -- ---- the arrays of a plan
--- where the outflows begin among the amounts, and the allocation among the shares
+-- where the outflows and the money already invested begin among the amounts, and the allocation among the shares
 abbrev pub outflowsFrom : ℕ
 outflowsFrom = 480
+
+abbrev pub openingFrom : ℕ
+openingFrom = 510
 
 abbrev pub allocationFrom : ℕ
 allocationFrom = 30
 
--- N, n, q and m
+-- N, n, q and m, and whether money already invested is held
 abbrev pub allCounts : Plan → List ℕ
-allCounts plan = plan .years ∷ plan .instruments ∷ plan .terms ∷ plan .patterns ∷ []
+allCounts plan = plan .years ∷ plan .instruments ∷ plan .terms ∷ plan .patterns ∷ flag (plan .opened) ∷ []
 
--- the payments of the 16 instruments, then the outflows
+-- the payments of the 16 instruments, then the outflows, then the money already invested
 unfoldable pub allAmounts : Plan → List ℤ
-allAmounts plan = joined 16 (λ j. instrumentAt plan j .payments) ++ plan .outflows
+allAmounts plan = (joined 16 (λ j. instrumentAt plan j .payments) ++ plan .outflows) ++ plan .opening
 
 -- the rollover, then the allocation
 abbrev pub allShares : Plan → List ℕ
@@ -57,7 +61,7 @@ instrumentsOf amounts = table 16 16 (λ j. record { payments = valuesAt amounts 
 unfoldable pub patternsOf : (rates : List ℤ) → List Pattern
 patternsOf rates = table 64 64 (λ t. record { rates = valuesAt rates (30 * t) 30 }) noPattern
 
--- the whole plan
+-- the whole plan; any number but 0 says that money already invested is held
 unfoldable pub planOfArrays : (counts : List ℕ) → (amounts : List ℤ) → (shares : List ℕ) → (rates : List ℤ) → Plan
 planOfArrays counts amounts shares rates = record {
   years = getD counts 0 0;
@@ -69,4 +73,6 @@ planOfArrays counts amounts shares rates = record {
   rollover = valuesAt shares 0 30;
   pattern = patternsOf rates;
   allocation = valuesAt shares allocationFrom 16;
+  opened = ltb 0 (getD counts 4 0);
+  opening = valuesAt amounts openingFrom 30;
 }

@@ -13,6 +13,9 @@ ghost use Rattle.arrays.specs.Arrays.{valuesAt, allocationFrom, allCount
 // Where the outflows begin among the amounts.
 const OUTFLOWS: usize = 480;
 
+// Where the money already invested begins among the amounts.
+const OPENING: usize = 510;
+
 // Where the allocation begins among the shares.
 const ALLOCATION: usize = 30;
 
@@ -53,11 +56,18 @@ fn copy_i32(from: &[i32], start: usize, to: &mut [i32], at: usize, n: usize)
 
 // ---- a plan into arrays
 
-// N, n, q and m.
-pub fn put_counts(plan: Plan, out: &mut [usize; 4])
+// N, n, q and m, and 1 where money already invested is held, else 0.
+pub fn put_counts(plan: Plan, out: &mut [usize; 5])
     ensures { λ _. ⌜ now (out .exit) ≡ allCounts plan ⌝ }
 {
-    *out = [plan.years, plan.instruments, plan.terms, plan.patterns];
+    let opened = plan::flag(plan.opened);
+    *out = [
+        plan.years,
+        plan.instruments,
+        plan.terms,
+        plan.patterns,
+        opened,
+    ];
 }
 
 // The payments of an instrument.
@@ -81,8 +91,8 @@ fn gammas_in(row: Row) -> [i64; 30]
     row.values
 }
 
-// The payments of the 16 instruments, then the outflows.
-pub fn put_amounts(plan: Plan, out: &mut [i64; 510])
+// The payments of the 16 instruments, then the outflows, then the money already invested.
+pub fn put_amounts(plan: Plan, out: &mut [i64; 540])
     ensures { λ _. ⌜ now (out .exit) ≡ allAmounts plan ⌝ }
 {
     let rows = plan.instrument;
@@ -93,6 +103,8 @@ pub fn put_amounts(plan: Plan, out: &mut [i64; 510])
     }
     let outflows = plan.outflows;
     copy_i64(&outflows, 0, out, OUTFLOWS, 30);
+    let opening = plan.opening;
+    copy_i64(&opening, 0, out, OPENING, 30);
 }
 
 // The rollover, then the allocation.
@@ -151,7 +163,7 @@ fn rates_at(rates: &[i32], at: usize) -> [i32; 30]
 }
 
 // The instruments: thirty payments each, one instrument after the other.
-fn instruments_of(amounts: &[i64; 510]) -> [Instrument; 16]
+fn instruments_of(amounts: &[i64; 540]) -> [Instrument; 16]
     ensures { λ r. ⌜ r ≡ instrumentsOf (now (amounts .entry)) ⌝ }
 {
     let none = Instrument {
@@ -196,10 +208,10 @@ fn allocation_of(shares: &[u32; 46]) -> [u32; 16]
     part
 }
 
-// The plan that such arrays hold, whatever they hold.
+// The plan that such arrays hold, whatever they hold. Any number but 0 says that money already invested is held.
 pub fn plan_of(
-    counts: &[usize; 4],
-    amounts: &[i64; 510],
+    counts: &[usize; 5],
+    amounts: &[i64; 540],
     shares: &[u32; 46],
     rates: &[i32; 1920],
 ) -> Plan
@@ -210,6 +222,7 @@ pub fn plan_of(
     let rollover = rollover_of(shares);
     let pattern = patterns_of(rates);
     let allocation = allocation_of(shares);
+    let opening = amounts_at(amounts, OPENING);
     Plan {
         years: counts[0],
         instruments: counts[1],
@@ -220,5 +233,7 @@ pub fn plan_of(
         rollover,
         pattern,
         allocation,
+        opening,
+        opened: 0 < counts[4],
     }
 }

@@ -34,8 +34,8 @@ pub extern "C" fn planner_list(file: &[u8], out: &mut [u8; 32768]) -> usize
 #[no_mangle]
 pub extern "C" fn planner_read(
     file: &[u8],
-    counts: &mut [usize; 4],
-    amounts: &mut [i64; 510],
+    counts: &mut [usize; 5],
+    amounts: &mut [i64; 540],
     shares: &mut [u32; 46],
     rates: &mut [i32; 1920],
 ) -> u8
@@ -59,8 +59,8 @@ pub extern "C" fn planner_read(
 // The file of a plan that arrays hold, in the first bytes of `buffer`, and its length; on a refusal the buffer is untouched.
 #[no_mangle]
 pub extern "C" fn planner_write(
-    counts: &[usize; 4],
-    amounts: &[i64; 510],
+    counts: &[usize; 5],
+    amounts: &[i64; 540],
     shares: &[u32; 46],
     rates: &[i32; 1920],
     buffer: &mut [u8],

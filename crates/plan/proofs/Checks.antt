@@ -1,5 +1,5 @@
 -- What the tests of the plan's arrays say of its numbers, and what a plan has that is not refused.
-use mathlib.Core.Path.{_≡_, refl, sym, ap, _∙_}
+use mathlib.Core.Path.{_≡_, refl, sym, ap, _∙_, subst}
 use mathlib.Core.Bool.{Bool, true, false}
 use mathlib.Core.List.{List, []}
 use Prim.Native.Nat.{ℕ, zero, suc, _+_, _-_, _≤_, _<_}
@@ -13,11 +13,11 @@ use Rattle.whole.specs.Sum.{sumℕ}
 use Rattle.whole.specs.Test.{both, all, isFrom, isBetween, isWithin}
 use Rattle.whole.specs.Table.{table}
 use Rattle.whole.proofs.Bridge.{whole}
-use Rattle.whole.proofs.Entry.{entry-each}
+use Rattle.whole.proofs.Entry.{entry-each, entry-own}
 use Rattle.whole.proofs.Table.{table-at}
 use Rattle.whole.proofs.Sum.{Σℕ-from}
-use Rattle.whole.proofs.Test.{both-first, both-second, all-yes, all-at, all-cong, between-fact, between-yes, from-low, from-high, from-yes}
-use Rattle.plan.specs.Held.{instrumentHeld, patternHeld, outflowsHeld}
+use Rattle.whole.proofs.Test.{both-first, both-second, all-yes, all-at, all-cong, between-fact, between-yes, from-low, from-high, from-yes, pick-few}
+use Rattle.plan.specs.Held.{openings, shapeOf, instrumentHeld, patternHeld, outflowsHeld, openingHeld}
 use Rattle.plan.specs.Numbers.{Numbers, paymentsMeant, ratesMeant, numbers}
 use Rattle.plan.specs.Refusal.{
   check,
@@ -29,6 +29,7 @@ use Rattle.plan.specs.Refusal.{
   paymentsFit,
   paymentsOk,
   outflowsOk,
+  openingOk,
   amountsOk,
   rolloverOk,
   ratesFit,
@@ -45,7 +46,7 @@ use Rattle.plan.specs.Refusal.{
 use Rattle.plan.specs.declared.Instrument.{Instrument}
 use Rattle.plan.specs.declared.Pattern.{Pattern}
 use Rattle.plan.specs.declared.Plan.{Plan}
-use Rattle.plan.proofs.Held.{instrument-is, pattern-is, outflow-is, rollover-is, rollover-past, allocation-is, payment-is, rate-is, instrument-each, pattern-each}
+use Rattle.plan.proofs.Held.{instrument-is, pattern-is, outflow-is, opening-is, rollover-is, rollover-past, allocation-is, payment-is, rate-is, instrument-each, pattern-each}
 
 -- ---- each test of an array is the test of the numbers that stand there
 -- the first n of an array lie between 0 and b
@@ -63,6 +64,11 @@ ratesTested rows years t = upTo top (years - 1) (ratesMeant years (patternHeld y
 up-to-table : (b n : ℕ) (f : ℕ → ℤ) → n ≤ 30 → upTo b n (table 30 n f (pos 0)) ≡ all n (λ k. isBetween (pos 0) (pos b) (f k))
 up-to-table b n f few = all-cong n _ _ (λ k l. ap (isBetween (pos 0) (pos b)) (table-at 30 n f (pos 0) (pos 0) k l few))
 
+-- and where money already invested pays nothing, it has passed
+pub opening-passes : (P : Numbers) → ((k : ℕ) → P .b k ≡ pos 0) → openingOk P ≡ true
+unfolding openingOk
+opening-passes P none = all-yes (P .years) _ (λ k l. between-yes _ _ _ (rw (none (1 + k)) (omega whole)))
+
 module _ (plan : Plan) where
   module _ (years-few : plan .years ≤ 30) where
     pub payments-ok : all (plan .instruments) (paymentsTested (plan .instrument) (plan .years)) ≡ paymentsOk (numbers plan)
@@ -78,6 +84,11 @@ module _ (plan : Plan) where
   pub outflows-ok : all (plan .years) (λ k. isWithin most (getD (plan .outflows) k (pos 0))) ≡ outflowsOk (numbers plan)
   unfolding outflowsOk
   outflows-ok = all-cong (plan .years) _ _ (λ k l. ap (isWithin most) (sym (outflow-is plan k l)))
+
+  -- money already invested is looked at where it is held
+  pub opening-ok : plan .opened ≡ true → upTo most (plan .years) (plan .opening) ≡ openingOk (numbers plan)
+  unfolding openingOk
+  opening-ok e = all-cong (plan .years) _ _ (λ k l. ap (isBetween (pos 0) (pos most)) (sym (opening-is plan k l ∙ rw e)))
 
   pub rollover-ok : eqb (sumℕ (plan .terms) (λ d. getD (plan .rollover) d 0)) million ≡ rolloverOk (numbers plan)
   unfolding rolloverOk
@@ -157,6 +168,14 @@ module _ (plan : Plan) where
   unfolding outflowsHeld
   outflow-each e = entry-each _ _ _ (Within most) (omega whole) (λ k l. between-fact _ _ _ (all-at (plan .years) _ k l (outflows-ok plan ∙ e)))
 
+  opening-each : openingOk (numbers plan) ≡ true → (k : ℕ) → Between (pos 0) (pos most) (numbers plan .b k)
+  unfolding openingOk openingHeld
+  opening-each e k =
+      let n = openings (shapeOf plan) in
+      subst (λ (b : ℕ → ℤ). Between (pos 0) (pos most) (b k)) (sym (entry-own (pos 0) n _))
+      (entry-each (pos 0) n _ (Between (pos 0) (pos most)) (omega whole)
+      (λ k l. between-fact _ _ _ (all-at (plan .years) _ k (omega (arith, l, pick-few (plan .opened) (plan .years))) e)) k)
+
   rate-each : ratesOk (numbers plan) ≡ true → (t l : ℕ) → Between (pos 0) (pos top) (numbers plan .i t l)
   unfolding ratesOk ratesFit
   rate-each e t l =
@@ -178,11 +197,13 @@ accepted plan e =
     let amounts = first-none (amountsRefusal P) _ e₆ in
     let e₈ = first-next (amountsRefusal P) _ e₆ in
     let both₆ = check-true (amountsOk P) 6 _ (omega arith) amounts in
+    let flows₆ = both-second (paymentsOk P) _ both₆ in
     let e₇ = check-rest (amountsOk P) 6 _ (omega arith) amounts in
     record {
       head = head-passed P (first-none (headRefusal P) _ e);
       payments = payment-each plan (both-first _ _ both₆);
-      outflows = outflow-each plan (both-second (paymentsOk P) _ both₆);
+      outflows = outflow-each plan (both-first _ _ flows₆);
+      opening = opening-each plan (both-second (outflowsOk P) _ flows₆);
       rollover = eqb-true _ _ (check-true (rolloverOk P) 7 0 (omega arith) e₇);
       rollover-past = rollover-past plan;
       rates = rate-each plan (check-true (ratesOk P) 8 0 (omega arith) (first-none (ratesRefusal P) _ e₈));
@@ -205,10 +226,14 @@ module _ {P : Numbers} (ok : Accepted P) where
   unfolding outflowsOk
   outflows-pass = all-yes (P .years) _ (λ k l. between-yes _ _ _ (ok .outflows (1 + k)))
 
+  opening-pass : openingOk P ≡ true
+  unfolding openingOk
+  opening-pass = all-yes (P .years) _ (λ k l. between-yes _ _ _ (ok .opening (1 + k)))
+
   rates-pass : ratesOk P ≡ true
   unfolding ratesOk ratesFit
   rates-pass = all-yes (P .patterns) _ (λ t h. all-yes (P .years - 1) _ (λ l k. between-yes _ _ _ (ok .rates (1 + t) (2 + l))))
 
   pub accepted-none : refusalOf P ≡ 0
   unfolding refusalOf headRefusal amountsRefusal ratesRefusal allocationRefusal amountsOk rolloverOk allocationOk
-  accepted-none = rw (head-passes, payments-pass, outflows-pass, eq-eqb _ _ (ok .rollover), rates-pass, eq-eqb _ _ (ok .allocation))
+  accepted-none = rw (head-passes, payments-pass, outflows-pass, opening-pass, eq-eqb _ _ (ok .rollover), rates-pass, eq-eqb _ _ (ok .allocation))

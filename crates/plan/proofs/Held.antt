@@ -1,22 +1,27 @@
 -- Where what a plan holds stands in its arrays, and that the plan of what is held holds just that.
 use mathlib.Core.Path.{_≡_, refl, sym, ap, _∙_, fun-ext}
+use mathlib.Core.Bool.{Bool, true, false}
 use Prim.Native.Nat.{ℕ, _+_, _-_, _≤_, _<_}
 use native.Mathlib.Omega.{arith}
 use lib.IntN.{ℤ, pos}
 use lib.ListN.{getD}
+use Rattle.whole.specs.Test.{pick}
 use Rattle.whole.specs.Entry.{entry}
 use Rattle.whole.specs.Table.{table}
-use Rattle.whole.proofs.Entry.{entry-at, entry-zero, entry-beyond, entry-each, entry-cong, entry-own, entry-none}
+use Rattle.whole.proofs.Entry.{entry-at, entry-zero, entry-beyond, entry-empty, entry-each, entry-cong, entry-own, entry-none}
 use Rattle.whole.proofs.Table.{table-at}
+use Rattle.whole.proofs.Test.{pick-few}
 use Rattle.plan.specs.declared.Plan.{Plan}
 use Rattle.plan.specs.Held.{
   HeldInstrument,
   HeldPattern,
   Held,
+  openings,
   unheldInstrument,
   unheldPattern,
   instrumentHeld,
   patternHeld,
+  shapeOf,
   instrumentAt,
   patternAt,
   instrumentsHeld,
@@ -24,6 +29,7 @@ use Rattle.plan.specs.Held.{
   rolloverHeld,
   patternsHeld,
   allocationHeld,
+  openingHeld,
   held,
   noInstrument,
   noPattern,
@@ -33,6 +39,11 @@ use Rattle.plan.specs.Held.{
 }
 use Rattle.plan.specs.Numbers.{numbers}
 use Rattle.plan.specs.Refusal.{Head}
+
+-- money that is held for all years or for none: in a year it is the amount, or 0
+money-at : (opened : Bool) (N : ℕ) (f : ℕ → ℤ) (k : ℕ) → k < N → entry (pos 0) (pick opened N 0) f (1 + k) ≡ pick opened (f k) (pos 0)
+money-at true N f k h = entry-at (pos 0) N f k h
+money-at false N f k h = entry-empty (pos 0) f (1 + k)
 
 -- ---- where it stands
 module _ (plan : Plan) where
@@ -67,6 +78,10 @@ module _ (plan : Plan) where
       ap (λ (i : HeldPattern). i .rate (2 + l - 1)) (pattern-is t h)
       ∙ rw e (entry-at (pos 0) (plan .years - 1) (λ l. getD (patternAt plan t .rates) l (pos 0)) l k)
 
+  pub opening-is : (k : ℕ) → k < plan .years → numbers plan .b (1 + k) ≡ pick (plan .opened) (getD (plan .opening) k (pos 0)) (pos 0)
+  unfolding openingHeld
+  opening-is = money-at (plan .opened) (plan .years) (λ k. getD (plan .opening) k (pos 0))
+
   -- ---- and where nothing does
   -- what holds of nothing and of every row of the plan holds at every index
   pub instrument-each : (Q : HeldInstrument → Type 0) → Q unheldInstrument → ((j : ℕ) → j < plan .instruments → Q (instrumentHeld (plan .years) (instrumentAt plan j)))
@@ -78,6 +93,11 @@ module _ (plan : Plan) where
       → (t : ℕ) → Q (held plan .pattern t)
   unfolding patternsHeld
   pattern-each Q none some = entry-each unheldPattern (plan .patterns) _ Q none some
+
+  -- money already invested that is not held pays nothing
+  pub opening-none : plan .opened ≡ false → (k : ℕ) → numbers plan .b k ≡ pos 0
+  unfolding openingHeld
+  opening-none e = rw e (entry-empty (pos 0) (λ k. getD (plan .opening) k (pos 0)))
 
   -- year 0 has no payment and no outflow, nor has a year past the last
   pub payment-before : (j : ℕ) → numbers plan .a 0 j ≡ pos 0
@@ -93,6 +113,14 @@ module _ (plan : Plan) where
   pub outflow-past : (k : ℕ) → plan .years < k → numbers plan .o k ≡ pos 0
   unfolding outflowsHeld
   outflow-past = entry-beyond (pos 0) (plan .years) _
+
+  pub opening-before : numbers plan .b 0 ≡ pos 0
+  unfolding openingHeld
+  opening-before = entry-zero (pos 0) (openings (shapeOf plan)) _
+
+  pub opening-past : (k : ℕ) → plan .years < k → numbers plan .b k ≡ pos 0
+  unfolding openingHeld
+  opening-past k h = entry-beyond (pos 0) (openings (shapeOf plan)) _ k (omega (arith, h, pick-few (plan .opened) (plan .years)))
 
   -- no share is rolled over before the first term, nor past the last
   pub rollover-before : numbers plan .r 0 ≡ 0
@@ -117,10 +145,11 @@ pub record Tidy (H : Held) : Type 0 where
   pub pattern : H .pattern ≡ entry unheldPattern (H .shape .patterns) (λ t. H .pattern (1 + t))
   pub rate : (t : ℕ) → H .pattern t .rate ≡ entry (pos 0) (H .shape .years - 1) (λ l. H .pattern t .rate (1 + l))
   pub allocation : H .allocation ≡ entry 0 (H .shape .instruments) (λ j. H .allocation (1 + j))
+  pub opening : H .opening ≡ entry (pos 0) (openings (H .shape)) (λ k. H .opening (1 + k))
 
 -- what a plan holds does
 pub tidy-held : (plan : Plan) → Head (numbers plan) → Tidy (held plan)
-unfolding instrumentsHeld outflowsHeld rolloverHeld patternsHeld allocationHeld
+unfolding instrumentsHeld outflowsHeld rolloverHeld patternsHeld allocationHeld openingHeld
 tidy-held plan h = record {
   years-few = h .years-few;
   instruments-few = h .instruments-few;
@@ -133,6 +162,7 @@ tidy-held plan h = record {
   pattern = entry-own unheldPattern (plan .patterns) _;
   rate = pattern-each plan (λ i. i .rate ≡ entry (pos 0) (plan .years - 1) (λ l. i .rate (1 + l))) (entry-none (pos 0) (plan .years - 1)) (λ t l. entry-own (pos 0) (plan .years - 1) _);
   allocation = entry-own 0 (plan .instruments) _;
+  opening = entry-own (pos 0) (openings (shapeOf plan)) _;
 }
 
 -- the first n of an array that is filled with f are those of f
@@ -168,6 +198,12 @@ module _ (H : Held) (tidy : Tidy H) where
   unfolding allocationHeld planFrom
   same-allocation = entry-table 0 0 0 16 (H .shape .instruments) _ (tidy .instruments-few) ∙ sym (tidy .allocation)
 
+  same-opening : openingHeld (planFrom H) ≡ H .opening
+  unfolding openingHeld planFrom
+  same-opening =
+      let few : openings (H .shape) ≤ 30 = omega (arith, pick-few (H .shape .opened) (H .shape .years), tidy .years-few) in
+      entry-table (pos 0) (pos 0) (pos 0) 30 (openings (H .shape)) _ few ∙ sym (tidy .opening)
+
   pub held-from : held (planFrom H) ≡ H
   unfolding planFrom
-  held-from = rw (same-instruments, same-outflows, same-rollover, same-patterns, same-allocation)
+  held-from = rw (same-instruments, same-outflows, same-rollover, same-patterns, same-allocation, same-opening)

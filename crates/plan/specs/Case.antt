@@ -1,4 +1,5 @@
--- The plans of document 01's worked cases: L and its neighbours, and the plans of one year.
+-- The plans of the worked cases: L and its neighbours, and the plans of one year.
+use mathlib.Core.Bool.{Bool, false}
 use mathlib.Core.List.{_∷_}
 use Prim.Native.Nat.{ℕ}
 use lib.ListN.{replicate}
@@ -21,14 +22,16 @@ nearL share rate = record {
   rollover = share ∷ replicate 29 0;
   pattern = record { rates = rate ∷ replicate 29 (pos 0) } ∷ record { rates = pos 90_000 ∷ replicate 29 (pos 0) } ∷ replicate 62 noPattern;
   allocation = 500_000 ∷ 500_000 ∷ replicate 14 0;
+  opened = false;
+  opening = replicate 30 (pos 0);
 }
 
 unfoldable pub planL : Plan
 planL = nearL 1_000_000 (pos 60_000)
 
--- one year, one payment of 1080000000, and an outflow
-unfoldable pub oneYear : (outflow : ℤ) → Plan
-oneYear outflow = record {
+-- one year, one payment of 1080000000, an outflow, and money already invested, held or not
+unfoldable pub renewed : (outflow : ℤ) (opened : Bool) (money : ℤ) → Plan
+renewed outflow opened money = record {
   years = 1;
   instruments = 1;
   terms = 1;
@@ -38,4 +41,10 @@ oneYear outflow = record {
   rollover = 1_000_000 ∷ replicate 29 0;
   pattern = replicate 64 noPattern;
   allocation = 1_000_000 ∷ replicate 15 0;
+  opened = opened;
+  opening = money ∷ replicate 29 (pos 0);
 }
+
+-- without such money
+unfoldable pub oneYear : (outflow : ℤ) → Plan
+oneYear outflow = renewed outflow false (pos 0)

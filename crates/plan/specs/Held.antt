@@ -1,9 +1,12 @@
--- What a plan or a file holds, as it was typed: numbers by document 01's indices, each 0 outside N, n, q and m. `held` says it of a plan
--- held as values; what an array has past these counts plays no part. `planFrom` is the plan that holds just this, with zeros elsewhere.
+-- What a plan or a file holds, as it was typed: numbers by document 01's indices, each 0 outside N, n, q and m, and 0 for a kind that is
+-- not held. `held` says it of a plan held as values; what an array has past these counts, or for a kind that is not held, plays no part.
+-- `planFrom` is the plan that holds just this, with zeros elsewhere.
+use mathlib.Core.Bool.{Bool, false}
 use mathlib.Core.List.{[]}
 use Prim.Native.Nat.{ℕ, _+_, _-_}
 use lib.ListN.{getD, replicate}
 use lib.IntN.{ℤ, pos}
+use Rattle.whole.specs.Test.{pick}
 use Rattle.whole.specs.Entry.{entry}
 use Rattle.whole.specs.Table.{table}
 use Rattle.plan.specs.declared.Shape.{Shape}
@@ -26,6 +29,15 @@ pub record Held : Type 0 where
   pub rollover : (d : ℕ) → ℕ
   pub pattern : (t : ℕ) → HeldPattern
   pub allocation : (j : ℕ) → ℕ
+  pub opening : (k : ℕ) → ℤ
+
+-- 1 where a kind is held, 0 where it is not: how many records it has
+abbrev pub flag : Bool → ℕ
+flag isHeld = pick isHeld 1 0
+
+-- for how many years money already invested is held: all N, or none
+abbrev pub openings : Shape → ℕ
+openings h = pick (h .opened) (h .years) 0
 
 -- what is outside n and m
 abbrev pub unheldInstrument : HeldInstrument
@@ -44,7 +56,7 @@ patternHeld N row = record { rate = entry (pos 0) (N - 1) (λ l. getD (row .rate
 
 module _ (plan : Plan) where
   abbrev pub shapeOf : Shape
-  shapeOf = record { years = plan .years; instruments = plan .instruments; terms = plan .terms; patterns = plan .patterns }
+  shapeOf = record { years = plan .years; instruments = plan .instruments; terms = plan .terms; patterns = plan .patterns; opened = plan .opened }
 
   -- row j of the instruments and row t of the patterns, counted from 0
   abbrev pub instrumentAt : (j : ℕ) → Instrument
@@ -68,6 +80,9 @@ module _ (plan : Plan) where
   unfoldable pub allocationHeld : (j : ℕ) → ℕ
   allocationHeld = entry 0 (plan .instruments) (λ j. getD (plan .allocation) j 0)
 
+  unfoldable pub openingHeld : (k : ℕ) → ℤ
+  openingHeld = entry (pos 0) (openings shapeOf) (λ k. getD (plan .opening) k (pos 0))
+
   abbrev pub held : Held
   held = record {
     shape = shapeOf;
@@ -76,6 +91,7 @@ module _ (plan : Plan) where
     rollover = rolloverHeld;
     pattern = patternsHeld;
     allocation = allocationHeld;
+    opening = openingHeld;
   }
 
 -- ---- the plan of what is held
@@ -97,6 +113,8 @@ noPlan = record {
   rollover = replicate 30 0;
   pattern = replicate 64 noPattern;
   allocation = replicate 16 0;
+  opened = false;
+  opening = replicate 30 (pos 0);
 }
 
 -- one row of it
@@ -119,4 +137,6 @@ planFrom H =
       rollover = table 30 (h .terms) (λ d. H .rollover (1 + d)) 0;
       pattern = table 64 (h .patterns) (λ t. patternFrom (h .years) (H .pattern (1 + t))) noPattern;
       allocation = table 16 (h .instruments) (λ j. H .allocation (1 + j)) 0;
+      opened = h .opened;
+      opening = table 30 (openings h) (λ k. H .opening (1 + k)) (pos 0);
     }

@@ -8,7 +8,7 @@ use Rattle.plan.specs.declared.Plan.{Plan}
 use Rattle.plan.specs.Held.{HeldInstrument, HeldPattern, Held, held}
 
 -- N, n, q, m; the payment a_kj of instrument j in year k, the outflow o_k, the rollover share r_d, the rate i_l of pattern t,
--- the share p_j of the allocation
+-- the share p_j of the allocation, and what money already invested pays in year k, b_k (a_k0 in document 004, equation 2')
 pub record Numbers : Type 0 where
   pub years : ℕ
   pub instruments : ℕ
@@ -19,6 +19,7 @@ pub record Numbers : Type 0 where
   pub r : (d : ℕ) → ℕ
   pub i : (t l : ℕ) → ℤ
   pub p : (j : ℕ) → ℕ
+  pub b : (k : ℕ) → ℤ
 
 -- what an instrument pays in year k, and the rate of a pattern in year l, whose first is that of year 2
 abbrev pub paymentOf : HeldInstrument → (k : ℕ) → ℤ
@@ -39,6 +40,7 @@ meaning H = record {
   r = H .rollover;
   i = λ t. rateOf (H .pattern t);
   p = H .allocation;
+  b = H .opening;
 }
 
 -- of a plan

@@ -25,7 +25,7 @@ abbrev pub answer : {A : Type 0} → (refused : ℕ → A) → (number : ℕ) �
 answer refused zero accepted = accepted
 answer refused (suc n) accepted = refused (suc n)
 
--- the most that a payment or, without its sign, an outflow is
+-- the most that a payment, what money already invested pays or, without its sign, an outflow is
 abbrev pub most : ℕ
 most = 20_000_000_000
 
@@ -44,7 +44,7 @@ module _ (P : Numbers) where
   unfoldable pub headOk : Bool
   headOk = countsOk (P .years) (P .instruments) (P .terms) (P .patterns)
 
-  -- 6: the payments of instrument 1 + j, those of all, the outflows
+  -- 6: the payments of instrument 1 + j, those of all, the outflows, the money already invested
   unfoldable pub paymentsFit : (j : ℕ) → Bool
   paymentsFit j = all (P .years) (λ k. isBetween (pos 0) (pos most) (P .a (1 + k) (1 + j)))
 
@@ -54,8 +54,11 @@ module _ (P : Numbers) where
   unfoldable pub outflowsOk : Bool
   outflowsOk = all (P .years) (λ k. isWithin most (P .o (1 + k)))
 
+  unfoldable pub openingOk : Bool
+  openingOk = all (P .years) (λ k. isBetween (pos 0) (pos most) (P .b (1 + k)))
+
   unfoldable pub amountsOk : Bool
-  amountsOk = both paymentsOk outflowsOk
+  amountsOk = both paymentsOk (both outflowsOk openingOk)
 
   -- 7
   unfoldable pub rolloverOk : Bool
@@ -79,7 +82,7 @@ module _ (P : Numbers) where
       check headOk 3
       0
 
-  -- payments, outflows and the rollover
+  -- the amounts and the rollover
   unfoldable pub amountsRefusal : ℕ
   amountsRefusal =
       check amountsOk 6
@@ -118,6 +121,7 @@ pub record Accepted (P : Numbers) : Type 0 where
   pub head : Head P
   pub payments : (k j : ℕ) → Between (pos 0) (pos most) (P .a k j)
   pub outflows : (k : ℕ) → Within most (P .o k)
+  pub opening : (k : ℕ) → Between (pos 0) (pos most) (P .b k)
   pub rollover : Σℕ 1 (P .terms) (P .r) ≡ million
   pub rollover-past : (d : ℕ) → P .terms < d → P .r d ≡ 0
   pub rates : (t l : ℕ) → Between (pos 0) (pos top) (P .i t l)

@@ -4,17 +4,18 @@ ghost use Prim.Native.Nat.{_≤_};
 ghost use lib.ListN.{length, getD};
 ghost use lib.IntN.{pos};
 ghost use Rattle.whole.specs.Sum.{sumℕ};
-ghost use Rattle.whole.specs.Test.{all, isFrom, isBetween};
-ghost use Rattle.plan.specs.Held.{shapeOf, instrumentHeld, patternHeld};
+ghost use Rattle.whole.specs.Test.{pick, all, isFrom, isBetween};
+ghost use Rattle.plan.specs.Held.{flag, shapeOf, instrumentHeld, patternHeld};
 ghost use Rattle.plan.specs.Numbers.{paymentsMeant, ratesMeant, numbers};
-ghost use Rattle.plan.specs.Refusal.{Head, shapeOk, paymentsOk, outflowsOk, amountsOk, rolloverOk, ratesOk, allocationOk, headRefusal, amountsRefusal, ratesRefusal, allocationRefusal, refusalOf};
+ghost use Rattle.plan.specs.Refusal.{Head, shapeOk, paymentsOk, outflowsOk, openingOk, amountsOk, rolloverOk, ratesOk, allocationOk, headRefusal, amountsRefusal, ratesRefusal, allocationRefusal, refusalOf};
 
-// N, n, q and m: what decides which records a plan file has.
+// N, n, q and m, and which kinds are held that may be absent: what decides which records a plan file has.
 pub struct Shape {
     pub years: usize,
     pub instruments: usize,
     pub terms: usize,
     pub patterns: usize,
+    pub opened: bool,
 }
 
 // The payments of one instrument per 1,000,000,000 put in, year after year.
@@ -27,7 +28,8 @@ pub struct Pattern {
     pub rates: [i32; 30],
 }
 
-// N, n, q and m, and the numbers that they count; what an array holds past them plays no part.
+// N, n, q and m, and the numbers that they count; what an array holds past them plays no part. `opened` says whether the plan holds
+// money already invested; where it does not, nothing in `opening` plays a part.
 pub struct Plan {
     pub years: usize,
     pub instruments: usize,
@@ -38,6 +40,8 @@ pub struct Plan {
     pub rollover: [u32; 30],
     pub pattern: [Pattern; 64],
     pub allocation: [u32; 16],
+    pub opening: [i64; 30],
+    pub opened: bool,
 }
 
 // ---- what is meant
@@ -51,7 +55,15 @@ pub fn shape_of(plan: Plan) -> Shape
         instruments: plan.instruments,
         terms: plan.terms,
         patterns: plan.patterns,
+        opened: plan.opened,
     }
+}
+
+// 1 where a kind is held, 0 where it is not: how many records it has in the plan's file.
+pub fn flag(held: bool) -> usize
+    ensures { λ r. ⌜ r ≡ flag held ⌝ }
+{
+    if held { 1 } else { 0 }
 }
 
 // What an instrument pays in each of the first `years` years, and zeros past them.
@@ -86,6 +98,13 @@ pub fn rates(row: Pattern, years: usize) -> [i64; 30]
         v[l] = wide(xs[l]);
     }
     v
+}
+
+// An amount where its kind is held, 0 where it is not.
+pub fn amount_held(held: bool, amount: i64) -> i64
+    ensures { λ r. ⌜ r ≡ pick held amount (pos 0) ⌝ }
+{
+    if held { amount } else { 0 }
 }
 
 // ---- the checks, one by one
@@ -175,6 +194,19 @@ fn outflows_ok(plan: Plan) -> bool
     amounts_ok(&outflows, plan.years, -20_000_000_000, 20_000_000_000)
 }
 
+// Check 6, the money already invested.
+fn opening_ok(plan: Plan) -> bool
+    requires { ⌜ Head (numbers plan) ⌝ }
+    ensures { λ b. ⌜ b ≡ openingOk (numbers plan) ⌝ }
+{
+    let opened = plan.opened;
+    if !opened {
+        return true;
+    }
+    let opening = plan.opening;
+    amounts_ok(&opening, plan.years, 0, 20_000_000_000)
+}
+
 // Check 6.
 fn all_amounts_ok(plan: Plan) -> bool
     requires { ⌜ Head (numbers plan) ⌝ }
@@ -183,7 +215,10 @@ fn all_amounts_ok(plan: Plan) -> bool
     if !payments_ok(plan) {
         return false;
     }
-    outflows_ok(plan)
+    if !outflows_ok(plan) {
+        return false;
+    }
+    opening_ok(plan)
 }
 
 // Check 7.
@@ -234,7 +269,7 @@ pub fn head_refusal(plan: Plan) -> u8
     0
 }
 
-// That of the payments, the outflows and the rollover: 6 or 7, or 0.
+// That of the amounts and the rollover: 6 or 7, or 0.
 pub fn amounts_refusal(plan: Plan) -> u8
     requires { ⌜ Head (numbers plan) ⌝ }
     ensures { λ s. ⌜ s ≡ amountsRefusal (numbers plan) ⌝ }

@@ -1,7 +1,10 @@
 -- What a file that is read without a refusal has.
 use mathlib.Core.Path.{_≡_, refl, ap, _∙_}
+use mathlib.Core.Bool.{false}
 use mathlib.Core.List.{List}
 use Prim.Native.Nat.{ℕ}
+use lib.IntN.{pos}
+use Rattle.whole.proofs.Entry.{entry-empty}
 use Rattle.little_endian.specs.LittleEndian.{Bytes}
 use Rattle.plan.specs.Held.{held, planFrom}
 use Rattle.plan.specs.Numbers.{numbers, meaning}
@@ -9,11 +12,16 @@ use Rattle.plan.specs.Refusal.{refusalOf, Accepted}
 use Rattle.plan.proofs.Checks.{first-none, first-next, not-refused, answer-accepted, accepted}
 use Rattle.planfile.specs.declared.ReadAnswer.{ReadAnswer}
 use Rattle.planfile.specs.Checks.{shapeIn, layoutRefusal}
-use Rattle.planfile.specs.Records.{heldIn, fileOf}
+use Rattle.planfile.specs.Records.{heldOf, heldIn, fileOf}
 use Rattle.planfile.specs.Reading.{Laid}
 use Rattle.planfile.specs.Read.{numbersIn, readRefusal, readAnswer}
 use Rattle.planfile.proofs.Checks.{layout-laid}
 use Rattle.planfile.proofs.Trips.{file-again, held-read}
+
+-- a file without a kind 7 holds nothing for it
+pub unopened-none : (s : List ℕ) → shapeIn s .opened ≡ false → (k : ℕ) → numbersIn s .b k ≡ pos 0
+unfolding heldIn heldOf
+unopened-none s e = rw e (entry-empty (pos 0) _)
 
 module _ (s : List ℕ) (e : readAnswer s .refusal ≡ 0) where
   none-refused : readRefusal s ≡ 0

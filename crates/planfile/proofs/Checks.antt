@@ -11,7 +11,7 @@ use Rattle.whole.specs.Test.{both, all}
 use Rattle.whole.proofs.Test.{both-first, both-second, all-at, all-fails, all-yes, false-true}
 use Rattle.records.specs.Cursor.{wholeAt, wholeFile, nextAt, place, kindAt, bodyAt}
 use Rattle.records.specs.declared.Next.the-variants.{Record, Stop}
-use Rattle.records.proofs.Cursor.{whole-end, next-known, next-none, kind-next, length-next, length-body, Consists}
+use Rattle.records.proofs.Cursor.{whole-end, next-known, next-none, none-later, kind-next, length-next, length-body, Consists}
 use Rattle.plan.specs.declared.Shape.{Shape}
 use Rattle.plan.specs.Held.{Held}
 use Rattle.plan.specs.Numbers.{meaning}
@@ -65,9 +65,19 @@ module _ (s : List ℕ) where
         omega (arith, whole-end s 0 w, length-body s 0 w)
 
 -- ---- the role of record t, by what the cursor finds
-pub has-found : (s : List ℕ) (t role k a e : ℕ) → nextAt s (place s t) ≡ Record k a e → hasRole s t role ≡ eqb (roleOf k) role
-unfolding hasRole
-has-found s t role k a e n = rw (next-known s (place s t) k a e n .whole, ← kind-next s t k a e n)
+module _ (s : List ℕ) (t role : ℕ) where
+  pub has-found : (k a e : ℕ) → nextAt s (place s t) ≡ Record k a e → hasRole s t role ≡ eqb (roleOf k) role
+  unfolding hasRole
+  has-found k a e n = rw (next-known s (place s t) k a e n .whole, ← kind-next s t k a e n)
+
+  -- no record is whole there
+  pub has-none : wholeAt s (place s t) ≡ false → hasRole s t role ≡ false
+  unfolding hasRole
+  has-none w = rw w
+
+  -- the cursor stops there, or at an earlier record
+  pub has-missing : (u l : ℕ) → u ≤ t → nextAt s (place s u) ≡ Stop l → hasRole s t role ≡ false
+  has-missing u l h n = has-none (none-later s u t h (next-none s (place s u) l n .0))
 
 -- ---- check 4
 module _ (s : List ℕ) (gs : List Group) where
@@ -78,8 +88,8 @@ module _ (s : List ℕ) (gs : List Group) where
     role-found = has-found s t (spotAt gs t .role)
 
     pub role-missing : (l : ℕ) → nextAt s (place s t) ≡ Stop l → roleOk s gs t ≡ false
-    unfolding roleOk hasRole
-    role-missing l n = rw (next-none s (place s t) l n .0)
+    unfolding roleOk
+    role-missing l = has-missing s t (spotAt gs t .role) t l (omega arith)
 
     pub roles-fail : t < total gs → roleOk s gs t ≡ false → rolesOk s gs ≡ false
     unfolding rolesOk

@@ -1,19 +1,22 @@
 -- Both ways between a file and its records by role.
 use mathlib.Core.Path.{_≡_, refl, sym, ap, ap₂, _∙_, subst}
-use mathlib.Core.Bool.{true}
+use mathlib.Core.Bool.{Bool, true, false}
+use mathlib.Core.Logic.{⊎-elim}
 use mathlib.Core.List.{List}
-use Prim.Native.Nat.{ℕ, _<_}
+use Prim.Native.Nat.{ℕ, _≤_, _<_}
 use native.Mathlib.Omega.{arith}
-use borrow.Author.Tests.{eq-eqb}
+use borrow.Author.Tests.{eq-eqb, ne-eqb}
 use lib.Dec.{eqb}
 use lib.ListN.{length, getD}
 use Rattle.whole.specs.Table.{table}
+use Rattle.whole.proofs.Laws.{ℕ-cases}
 use Rattle.little_endian.specs.LittleEndian.{Bytes}
 use Rattle.records.specs.Record.{Rec, fileBytes}
 use Rattle.records.specs.Cursor.{wholeFile, place, kindAt, bodyAt}
 use Rattle.records.proofs.Record.{Small}
-use Rattle.records.proofs.Cursor.{Consists, recordAt, kind-written, body-written, consists-written, file-written, file-again}
+use Rattle.records.proofs.Cursor.{whole-no, none-later, Consists, recordAt, kind-written, body-written, consists-written, file-written, file-again}
 use Rattle.plan.specs.declared.Shape.{Shape}
+use Rattle.plan.specs.Held.{flag}
 use Rattle.plan.specs.Refusal.{shapeOk}
 use Rattle.planfile.specs.declared.Group.{Group}
 use Rattle.planfile.specs.declared.Spot.{Spot}
@@ -25,7 +28,7 @@ use Rattle.planfile.specs.Records.{recordIn, fileFrom}
 use Rattle.planfile.specs.Reading.{InRange, Laid}
 use Rattle.planfile.proofs.Kind.{kind-few, size-few}
 use Rattle.planfile.proofs.Groups.{place-spot, role-some, spot-back, length-laid, laid-at, laid-place}
-use Rattle.planfile.proofs.Checks.{roles-consist, role-there, roles-pass, size-there, sizes-pass}
+use Rattle.planfile.proofs.Checks.{has-none, roles-consist, role-there, roles-pass, size-there, sizes-pass}
 
 -- a record that may stand in a role
 pub record Suits (h : Shape) (role : ℕ) (r : Rec) : Type 0 where
@@ -81,6 +84,18 @@ module _ (h : Shape) (range : InRange h) (f : (role j : ℕ) → Rec) (fit : All
   pub has-written : (t role : ℕ) → t < total gs → hasRole (fileFrom h f) t role ≡ eqb (spotAt gs t .role) role
   unfolding hasRole
   has-written t role l = rw (consists .whole t l, kind-at t l, suits t l .stands)
+
+  -- at the place of a role stands a record of it just where the groups have one
+  pub held-there : (role t : ℕ) (isHeld : Bool) → placeOf gs role 0 ≡ t → countOf gs role ≡ flag isHeld → hasRole (fileFrom h f) t role ≡ isHeld
+  held-there role t true i e =
+      let a = place-spot gs role 0 (omega (arith, e)) in
+      rw (← i) (has-written (placeOf gs role 0) role (a .inside) ∙ eq-eqb _ _ (ap (λ (x : Spot). x .role) (a .spot)))
+  held-there role t false i e =
+      let s = fileFrom h f in
+      ⊎-elim
+      (λ (l : t < total gs). has-written t role l ∙ ne-eqb _ role (λ r. absurd (omega (arith, spot-back h t l .index, ap (countOf gs) r, e))))
+      (λ (l : total gs ≤ t). has-none s t role (none-later s (total gs) t l (whole-no s _ (omega (arith, consists .ends)))))
+      (ℕ-cases t (total gs))
 
   pub roles-written : rolesOk (fileFrom h f) gs ≡ true
   roles-written = roles-pass (fileFrom h f) gs (λ t l. has-written t (spotAt gs t .role) l ∙ eq-eqb (spotAt gs t .role) _ refl) (consists .ends)

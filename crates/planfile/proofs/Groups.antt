@@ -15,9 +15,10 @@ use Rattle.whole.specs.Test.{pick, both}
 use Rattle.whole.specs.Table.{table}
 use Rattle.whole.proofs.Laws.{ℕ-cases}
 use Rattle.whole.proofs.Table.{length-table, table-at}
-use Rattle.whole.proofs.Test.{both-first, both-second, false-true}
+use Rattle.whole.proofs.Test.{both-first, both-second, false-true, pick-few}
 use Rattle.records.specs.Record.{Rec}
 use Rattle.plan.specs.declared.Shape.{Shape}
+use Rattle.plan.specs.Held.{flag}
 use Rattle.planfile.specs.declared.Group.{Group}
 use Rattle.planfile.specs.declared.Spot.{Spot}
 use Rattle.planfile.specs.Groups.{groupsOf, groupCount, total, spotAt, countOf, placeOf, none, laid}
@@ -170,6 +171,14 @@ most [] = 0
 most (g ∷ gs) = (4 + longest (g .role)) * g .count + most gs
 
 -- ---- the groups of a shape
+-- a kind that may be absent has one record at most, and where it has one, all its n numbers are held
+pub held-few : (isHeld : Bool) → flag isHeld ≤ 1
+held-few isHeld = pick-few isHeld 1
+
+pub held-all : (isHeld : Bool) {j : ℕ} → j < flag isHeld → (n : ℕ) → pick isHeld n 0 ≡ n
+held-all true l n = refl
+held-all false l n = absurd (omega arith)
+
 module _ (h : Shape) where
   pub length-groups : length (groupsOf h) ≡ groupCount
   unfolding groupsOf
@@ -187,11 +196,11 @@ module _ (h : Shape) where
 
   pub total-few : InRange h → total (groupsOf h) ≤ 255
   unfolding groupsOf total
-  total-few r = omega (arith, r .instruments-few, r .patterns-few)
+  total-few r = omega (arith, r .instruments-few, r .patterns-few, held-few (h .opened))
 
-  pub most-few : InRange h → most (groupsOf h) ≤ 12_028
+  pub most-few : InRange h → most (groupsOf h) ≤ 12_272
   unfolding groupsOf nth
-  most-few r = omega (arith, r .instruments-few, r .patterns-few)
+  most-few r = omega (arith, r .instruments-few, r .patterns-few, held-few (h .opened))
 
   -- the spot of record t is that of a record of its role, whose place is t
   pub spot-back : (t : ℕ) → t < total (groupsOf h) → Back (groupsOf h) (spotAt (groupsOf h) t) t

@@ -81,6 +81,7 @@ longest =
     ∷ 120
     ∷ 116
     ∷ 64
+    ∷ 240
     ∷ [])
 
 module _ (h : Shape) (r : InRange h) where

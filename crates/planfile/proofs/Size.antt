@@ -11,7 +11,7 @@ use Rattle.little_endian.proofs.Runs.{length-run}
 use Rattle.records.specs.Record.{Rec, fileBytes}
 use Rattle.records.proofs.Record.{length-record, file-append}
 use Rattle.plan.specs.declared.Shape.{Shape}
-use Rattle.plan.specs.Held.{Held}
+use Rattle.plan.specs.Held.{Held, flag}
 use Rattle.planfile.specs.declared.Group.{Group}
 use Rattle.planfile.specs.Groups.{groupsOf, one, many, none, laid}
 use Rattle.planfile.specs.Rows.{instrumentRec, patternRec}
@@ -34,20 +34,23 @@ module _ (H : Held) where
   h = H .shape
 
   pub length-is : length (fileOf H)
-      ≡ 8 + (4 + 8 * h .years) * h .instruments + (4 + 8 * h .years) + (4 + 4 * h .terms) + (4 + 4 * (h .years - 1)) * h .patterns + (4 + 4 * h .instruments)
+      ≡ 8 + (4 + 8 * h .years) * h .instruments + (4 + 8 * h .years) + (4 + 8 * h .years) * flag (h .opened)
+      + (4 + 4 * h .terms) + (4 + 4 * (h .years - 1)) * h .patterns + (4 + 4 * h .instruments)
   unfolding fileOf fileFrom groupsOf recordOf instrumentRec patternRec laid fileBytes nth
   length-is =
       let f = recordOf H in
       let after-6 = [] in
       let after-5 = one 6 ∷ after-6 in
       let after-4 = many 5 (h .patterns) ∷ after-5 in
-      let after-3 = one 4 ∷ after-4 in
+      let after-7 = one 4 ∷ after-4 in
+      let after-3 = many 7 (flag (h .opened)) ∷ after-7 in
       let after-2 = one 3 ∷ after-3 in
       omega (
         arith,
         group-length f 1 1 4 (many 2 (h .instruments) ∷ after-2) (λ j. refl),
         group-length f 2 (h .instruments) (8 * h .years) after-2 (λ j. length-run 8 (h .years) _),
         group-length f 3 1 (8 * h .years) after-3 (λ j. length-run 8 (h .years) _),
+        group-length f 7 (flag (h .opened)) (8 * h .years) after-7 (λ j. length-run 8 (h .years) _),
         group-length f 4 1 (4 * h .terms) after-4 (λ j. length-run 4 (h .terms) _),
         group-length f 5 (h .patterns) (4 * (h .years - 1)) after-5 (λ j. length-run 4 (h .years - 1) _),
         group-length f 6 1 (4 * h .instruments) after-6 (λ j. length-run 4 (h .instruments) _),

@@ -1,7 +1,7 @@
 -- Checks 1 to 5, on the records of any bytes s (document 01, "Checking order").
 use mathlib.Core.Bool.{Bool}
 use mathlib.Core.List.{List}
-use Prim.Native.Nat.{ℕ}
+use Prim.Native.Nat.{ℕ, _+_}
 use lib.Dec.{leb, eqb}
 use lib.ListN.{length, getD}
 use Rattle.whole.specs.Test.{both, all}
@@ -17,9 +17,12 @@ module _ (s : List ℕ) where
   unfoldable pub hasRole : (t role : ℕ) → Bool
   hasRole t role = both (wholeAt s (place s t)) (eqb (roleOf (kindAt s t)) role)
 
-  -- the shape of a file: the four numbers of its first record
+  -- the shape of a file: the four numbers of its first record, and whether a kind 7 stands right after where kind 3 stands, which the head
+  -- and n instruments come before
   unfoldable pub shapeIn : Shape
-  shapeIn = record { years = getD s 4 0; instruments = getD s 5 0; terms = getD s 6 0; patterns = getD s 7 0 }
+  shapeIn =
+      let n = getD s 5 0 in
+      record { years = getD s 4 0; instruments = n; terms = getD s 6 0; patterns = getD s 7 0; opened = hasRole (2 + n) 7 }
 
   -- 3: the first record is there, is a kind 1 of four bytes, and its numbers are in their ranges
   unfoldable pub firstOk : Bool

@@ -15,7 +15,7 @@ pub record OneFile (s : List ℕ) (plan : Plan) : Type 0 where
   -- they are what is written of it: into any buffer with room for them, at its front, with nothing changed after them
   pub written : (buffer : List ℕ) → length s ≤ length buffer → writeAnswer plan buffer ≡ record { refusal = 0; length = length s }
   pub left : (buffer : List ℕ) → length s ≤ length buffer → bufferAfter plan buffer ≡ s ++ drop (length s) buffer
-  -- they are read as the plan with zeros past its N, n, q and m, which has the same numbers
+  -- they are read as the plan with zeros past its N, n, q and m and for what it does not hold, which has the same numbers
   pub read : readAnswer s ≡ record { refusal = 0; plan = planFrom (held plan) }
   pub same : numbers (planFrom (held plan)) ≡ numbers plan
   -- and no other bytes are

@@ -6,6 +6,7 @@ use Rattle.whole.specs.Test.{pick}
 use Rattle.whole.specs.Table.{table}
 use Rattle.records.specs.Record.{Rec}
 use Rattle.plan.specs.declared.Shape.{Shape}
+use Rattle.plan.specs.Held.{flag}
 use Rattle.planfile.specs.declared.Group.{Group}
 use Rattle.planfile.specs.declared.Spot.{Spot}
 
@@ -16,12 +17,13 @@ many role count = record { role = role; count = count }
 abbrev pub one : (role : ℕ) → Group
 one role = many role 1
 
--- the sequence that a shape requires
+-- the sequence that a shape requires; a kind that may be absent has one record or none
 unfoldable pub groupsOf : Shape → List Group
 groupsOf h =
     one 1
     ∷ many 2 (h .instruments)
     ∷ one 3
+    ∷ many 7 (flag (h .opened))
     ∷ one 4
     ∷ many 5 (h .patterns)
     ∷ one 6
@@ -29,7 +31,7 @@ groupsOf h =
 
 -- how many groups these are
 abbrev pub groupCount : ℕ
-groupCount = 6
+groupCount = 7
 
 -- how many records the groups have
 unfoldable pub total : List Group → ℕ

@@ -13,6 +13,7 @@ roles =
     ∷ 4
     ∷ 5
     ∷ 6
+    ∷ 7
     ∷ []
 
 -- the role of a kind; 0 where the number is no kind
@@ -28,6 +29,7 @@ sizes h =
     ∷ 4 * h .terms
     ∷ 4 * (h .years - 1)
     ∷ 4 * h .instruments
+    ∷ 8 * h .years
     ∷ []
 
 -- those of one kind

@@ -5,7 +5,7 @@ use Rattle.whole.specs.Entry.{nth, entry}
 use Rattle.records.specs.Record.{Rec, fileBytes}
 use Rattle.records.specs.Cursor.{kindAt, bodyAt}
 use Rattle.plan.specs.declared.Shape.{Shape}
-use Rattle.plan.specs.Held.{Held, unheldInstrument, unheldPattern}
+use Rattle.plan.specs.Held.{Held, openings, unheldInstrument, unheldPattern}
 use Rattle.planfile.specs.Groups.{groupsOf, placeOf, none, laid}
 use Rattle.planfile.specs.Rows.{rec, amountsIn, amountsBytes, sharesIn, sharesBytes, headRec, instrumentIn, instrumentRec, patternIn, patternRec}
 use Rattle.planfile.specs.Checks.{shapeIn}
@@ -29,6 +29,7 @@ heldOf h g = record {
   rollover = sharesIn (h .terms) (g 4 0);
   pattern = entry unheldPattern (h .patterns) (λ t. patternIn (h .years) (g 5 t));
   allocation = sharesIn (h .instruments) (g 6 0);
+  opening = amountsIn (openings h) (g 7 0);
 }
 
 -- record j of a role, from role 1 on
@@ -42,6 +43,7 @@ recordOf H role j =
     ∷ rec 4 (sharesBytes (h .terms) (H .rollover))
     ∷ patternRec (h .years) (H .pattern (1 + j))
     ∷ rec 6 (sharesBytes (h .instruments) (H .allocation))
+    ∷ rec 7 (amountsBytes (h .years) (H .opening))
     ∷ [])
     role
 

@@ -31,7 +31,7 @@ pub struct Spot {
 }
 
 // How many groups of records a file has.
-const GROUPS: usize = 6;
+const GROUPS: usize = 7;
 
 // The role of a kind: the first kind that may stand where it stands; 0 where the number is no kind.
 pub fn role_of(kind: usize) -> usize
@@ -45,7 +45,8 @@ pub fn role_of(kind: usize) -> usize
         4 => 4,
         5 => 5,
         6 => 6,
-        7.. => 0, // and no kind
+        7 => 7,
+        8.. => 0, // and no kind
     }
 }
 
@@ -62,7 +63,8 @@ pub fn size_of(shape: Shape, kind: usize) -> usize
         4 => 4 * shape.terms,
         5 => 4 * (shape.years - 1),
         6 => 4 * shape.instruments,
-        7.. => 0,
+        7 => 8 * shape.years,
+        8.. => 0,
     }
 }
 
@@ -77,6 +79,10 @@ pub fn groups_of(shape: Shape) -> [Group; GROUPS]
             count: shape.instruments,
         },
         Group { role: 3, count: 1 },
+        Group {
+            role: 7,
+            count: plan::flag(shape.opened),
+        },
         Group { role: 4, count: 1 },
         Group {
             role: 5,

@@ -1,5 +1,6 @@
 -- The loops that prepare a plan's numbers for the core: what they fill in is the plan's own, and fits.
 use mathlib.Core.Path.{_≡_, sym, ap₂, _∙_}
+use mathlib.Core.Bool.{Bool}
 use mathlib.Core.List.{List, []}
 use Prim.Native.Nat.{ℕ, _+_, _*_, _<_}
 use native.Mathlib.Omega.{arith}
@@ -9,6 +10,7 @@ use mir.Syntax.{w64}
 use mir.Val.{SFits}
 use Rattle.whole.specs.Range.{million, limit}
 use Rattle.whole.specs.Floor.{floor}
+use Rattle.whole.specs.Test.{pick}
 use Rattle.whole.proofs.Bridge.{whole, at, #, _⊖_, ⊝}
 use Rattle.whole.proofs.Range.{within-fits}
 use Rattle.whole.proofs.Sum.{Σℤ-from}
@@ -17,21 +19,26 @@ use Rattle.whole.proofs.Entry.{entry-at}
 use Rattle.reckoning.specs.Reckoning.{paid, flow}
 use Rattle.reckoning.specs.Arrays.{amountsOf}
 use Rattle.reckoning.proofs.Pattern.{amount-at}
-use Rattle.plan.specs.Numbers.{Numbers}
+use Rattle.plan.specs.Numbers.{numbers}
 use Rattle.plan.specs.Refusal.{Accepted}
+use Rattle.plan.specs.declared.Plan.{Plan}
+use Rattle.plan.proofs.Held.{outflow-is, opening-is}
 use Rattle.planner.specs.Calls.{Shared, sharedOf, flowOf}
 use Rattle.planner.specs.Arrays.{sharedIn, columnOf, Weighable, Prepared}
 use Rattle.planner.specs.declared.Common.{Common}
 use Rattle.planner.proofs.Held.{constant-within}
 use Rattle.planner.proofs.Weighing.{weighedBy}
 
--- ---- the flow of Q in year k, where o goes out
-module _ {P : Numbers} (ok : Accepted P) {k : ℕ} {o : ℤ} (outflow : P .o k ≡ o) where
-  pub constant-is : pos 0 -ℤ o ≡ sharedOf P .constantFlow k
-  constant-is = rw outflow (omega (whole, at (# (pos 0) ⊖ # o), at (⊝ (# o))))
+-- ---- the flow of Q in year 1 + k: what money already invested pays, where it is held, less the outflow
+abbrev pub constantIn : (opened : Bool) (b o : List ℤ) (k : ℕ) → ℤ
+constantIn opened b o k = pick opened (getD b k (pos 0)) (pos 0) -ℤ getD o k (pos 0)
 
-  pub constant-fits : SFits w64 (pos 0 -ℤ o)
-  constant-fits = rw constant-is (within-fits (omega arith) (constant-within ok k))
+module _ (plan : Plan) (ok : Accepted (numbers plan)) (k : ℕ) (h : k < plan .years) where
+  pub constant-is : constantIn (plan .opened) (plan .opening) (plan .outflows) k ≡ sharedOf (numbers plan) .constantFlow (1 + k)
+  constant-is = sym (ap₂ _-ℤ_ (opening-is plan k h) (outflow-is plan k h))
+
+  pub constant-fits : SFits w64 (constantIn (plan .opened) (plan .opening) (plan .outflows) k)
+  constant-fits = rw constant-is (within-fits (omega arith) (constant-within ok (1 + k)))
 
 -- ---- the allocation's flow in year 1 + k: the weighted sum of a column of the payments, in whole amounts, and the flow of Q
 module _ {c : Common} {rows : List (List ℤ)} (ok : Prepared c rows) where

@@ -1,4 +1,4 @@
--- The starred cases of document 01, computed: one joint result over their list.
+-- The starred cases of document 01, computed: one joint result over their list, and another over those of money already invested.
 use mathlib.Core.Path.{_≡_, refl}
 use mathlib.Core.Bool.{true}
 use mathlib.Core.List.{List·Memᴰ}
@@ -10,23 +10,24 @@ use Rattle.whole.specs.Test.{isBetween, isSame}
 use Rattle.whole.specs.Case.{Case, agree, shareCases}
 use Rattle.whole.proofs.Case.{agree-at, agree-join, shares-agree}
 use Rattle.reckoning.specs.Reckoning.{w, paid, flow, sent, alpha-step, alpha, fund}
+use Rattle.reckoning.specs.Exact.{x}
 use Rattle.reckoning.specs.Bound.{h, ceiling, G, B}
 use Rattle.reckoning.specs.Case.{boundCases, gammaCases}
 use Rattle.reckoning.proofs.Case.{bounds-agree, gammas-agree}
-use Rattle.plan.specs.Held.{instrumentsHeld, outflowsHeld, rolloverHeld, patternsHeld, allocationHeld}
-use Rattle.plan.specs.Case.{nearL, planL, oneYear}
-use Rattle.planner.specs.Calls.{flowOf, fundAt, boundAt}
+use Rattle.plan.specs.Held.{instrumentsHeld, outflowsHeld, rolloverHeld, patternsHeld, allocationHeld, openingHeld}
+use Rattle.plan.specs.Case.{nearL, planL, renewed, oneYear}
+use Rattle.planner.specs.Calls.{flowOf, exactFlowOf, fundAt, boundAt, constantAt}
 use Rattle.planner.specs.Verdict.{wordOf, wordAt, fundOf, patternWord}
-use Rattle.planner.specs.Case.{fundCases, wordCases, starredCases}
+use Rattle.planner.specs.Case.{fundCases, wordCases, starredCases, openingCases}
 
 funds-agree : agree fundCases ≡ true
-unfolding agree fundCases isSame isBetween fundOf fundAt flowOf instrumentsHeld outflowsHeld rolloverHeld patternsHeld allocationHeld fund alpha alpha-step sent flow paid w floor
+unfolding agree fundCases isSame isBetween fundOf fundAt flowOf instrumentsHeld outflowsHeld rolloverHeld patternsHeld allocationHeld openingHeld fund alpha alpha-step sent flow paid w floor
     shareOf sum sumℕ course history nth cut entry planL nearL
 funds-agree = refl
 
 words-agree : agree wordCases ≡ true
-unfolding agree wordCases isSame isBetween patternWord wordAt wordOf fundAt boundAt flowOf instrumentsHeld outflowsHeld rolloverHeld patternsHeld allocationHeld fund alpha
-    alpha-step sent flow paid w floor shareOf h ceiling G B sum sumℕ largest course history nth cut entry oneYear
+unfolding agree wordCases isSame isBetween patternWord wordAt wordOf fundAt boundAt flowOf instrumentsHeld outflowsHeld rolloverHeld patternsHeld allocationHeld openingHeld fund alpha
+    alpha-step sent flow paid w floor shareOf h ceiling G B sum sumℕ largest course history nth cut entry oneYear renewed
 words-agree = refl
 
 all-agree : agree starredCases ≡ true
@@ -39,3 +40,12 @@ all-agree =
 -- in every starred case the definitions give what the paper states
 pub starred : (c : Case) → List·Memᴰ c starredCases → c .given ≡ c .stated
 starred c = agree-at starredCases c all-agree
+
+openings-agree : agree openingCases ≡ true
+unfolding agree openingCases isSame isBetween patternWord wordAt wordOf fundAt boundAt constantAt flowOf exactFlowOf instrumentsHeld outflowsHeld rolloverHeld patternsHeld
+    allocationHeld openingHeld fund alpha alpha-step sent flow x paid w floor shareOf h ceiling G B sum sumℕ largest course history nth cut entry renewed
+openings-agree = refl
+
+-- and in those of money already invested
+pub opening-stated : (c : Case) → List·Memᴰ c openingCases → c .given ≡ c .stated
+opening-stated c = agree-at openingCases c openings-agree

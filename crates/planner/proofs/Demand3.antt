@@ -1,7 +1,7 @@
 -- Demand 3: the fund and the form that a call answers lie below the exact fund of the plan, by less than their bounds, and the
 -- verdict's words are true of it.
 use mathlib.Core.Path.{_≡_, refl, sym, ap, _∙_, subst}
-use mathlib.Core.Bool.{Bool, true}
+use mathlib.Core.Bool.{Bool, true, false}
 use Prim.Native.Nat.{ℕ, _+_, _-_, _*_, _^_, _≤_}
 use native.Mathlib.Omega.{arith}
 use borrow.Author.Tests.{eqb-true}
@@ -65,12 +65,14 @@ use Rattle.planner.specs.Verdict.{
   verdictAnswer,
 }
 use Rattle.planner.specs.Demand3.{FundNear, FormNear, ShortPattern, VerdictTrue}
+use Rattle.planner.specs.Plain.{Plain}
 use Rattle.planner.specs.declared.FormAnswer.{FormAnswer}
 use Rattle.planner.specs.declared.VerdictAnswer.{VerdictAnswer}
 use Rattle.planner.proofs.Held.{terms, rollover-held}
 use Rattle.planner.proofs.Answers.{refused-none, called, reckoned-is}
 use Rattle.planner.proofs.Bits.{Lowest, bits-lowest}
 use Rattle.planner.proofs.VerdictLaws.{verdictBy, word-solvent, word-short, plan-solvent, plan-short}
+use Rattle.planner.proofs.Plain.{plain-plan}
 
 module _ (plan : Plan) (t : ℕ) where
   abbrev P : Numbers
@@ -140,11 +142,11 @@ module _ (plan : Plan) (t : ℕ) where
   form-near = record { near = λ e. rw (form-is e) (form-below (called plan t (form-called e) .plan-ok)); bound = λ e. bound-is (form-called e) }
 
   -- ---- an answer, and with it what it means
-  pub fund-answered : {s : Reckoned} → s ≡ fundAnswer P t → (s ≡ fundAnswer P t) × FundNear P t s
-  fund-answered e = (e, subst (FundNear P t) (sym e) fund-near)
+  pub fund-answered : {s : Reckoned} → s ≡ fundAnswer P t → (s ≡ fundAnswer P t) × (FundNear P t s × (plan .opened ≡ false → Plain P))
+  fund-answered e = (e, (subst (FundNear P t) (sym e) fund-near, plain-plan plan))
 
-  pub form-answered : {s : FormAnswer} → s ≡ formAnswer P t → (s ≡ formAnswer P t) × FormNear P t s
-  form-answered e = (e, subst (FormNear P t) (sym e) form-near)
+  pub form-answered : {s : FormAnswer} → s ≡ formAnswer P t → (s ≡ formAnswer P t) × (FormNear P t s × (plan .opened ≡ false → Plain P))
+  form-answered e = (e, (subst (FormNear P t) (sym e) form-near, plain-plan plan))
 
 -- ---- the verdict
 module _ (plan : Plan) where
@@ -222,5 +224,5 @@ module _ (plan : Plan) where
     plan-short = some-short;
   }
 
-  pub verdict-answered : {s : VerdictAnswer} → s ≡ verdictAnswer (numbers plan) → (s ≡ verdictAnswer (numbers plan)) × VerdictTrue (numbers plan) s
-  verdict-answered e = (e, subst (VerdictTrue (numbers plan)) (sym e) verdict-true)
+  pub verdict-answered : {s : VerdictAnswer} → s ≡ verdictAnswer (numbers plan) → (s ≡ verdictAnswer (numbers plan)) × (VerdictTrue (numbers plan) s × (plan .opened ≡ false → Plain (numbers plan)))
+  verdict-answered e = (e, (subst (VerdictTrue (numbers plan)) (sym e) verdict-true, plain-plan plan))

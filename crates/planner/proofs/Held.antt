@@ -7,7 +7,7 @@ use Prim.Native.Nat.{ℕ, zero, suc, _+_, _-_, _*_, _≤_, _<_}
 use native.Mathlib.Nat.{le-of-eq}
 use native.Mathlib.Omega.{arith}
 use lib.ListN.{getD}
-use lib.IntN.{ℤ, pos, natAbs, negℤ, _+ℤ_, _*ℤ_, zero-*ℤ}
+use lib.IntN.{ℤ, pos, natAbs, _+ℤ_, _-ℤ_, _*ℤ_, zero-*ℤ}
 use Rattle.whole.specs.Range.{million, limit, Between, Within}
 use Rattle.whole.specs.Floor.{floor}
 use Rattle.whole.specs.Sum.{sumℕ}
@@ -15,7 +15,7 @@ use Rattle.whole.specs.Table.{table}
 use Rattle.whole.specs.Entry.{nth, entry}
 use Rattle.whole.proofs.Bridge.{whole}
 use Rattle.whole.proofs.Laws.{ℕ-cases}
-use Rattle.whole.proofs.Range.{within-more, within-add, within-neg}
+use Rattle.whole.proofs.Range.{within-more, within-add, within-sub}
 use Rattle.whole.proofs.Floor.{floor-within}
 use Rattle.whole.proofs.Sum.{Σℕ-from, sum-zeros, sum-within-parts, sumℕ-one}
 use Rattle.whole.proofs.Table.{table-at, table-each, table-cong}
@@ -26,7 +26,7 @@ use Rattle.plan.specs.Held.{HeldInstrument, unheldInstrument, patternHeld, patt
 use Rattle.plan.specs.Numbers.{Numbers, ratesMeant, numbers}
 use Rattle.plan.specs.Refusal.{most, Accepted}
 use Rattle.plan.specs.declared.Plan.{Plan}
-use Rattle.plan.proofs.Held.{payment-before, payment-past, outflow-before, outflow-past, rollover-before, allocation-is, pattern-is, pattern-each, tidy-held}
+use Rattle.plan.proofs.Held.{payment-before, payment-past, outflow-before, outflow-past, opening-before, opening-past, rollover-before, allocation-is, pattern-is, pattern-each, tidy-held}
 use Rattle.planner.specs.Calls.{Shared, sharedOf, flowOf, flowReckoned}
 use Rattle.planner.specs.Arrays.{rolloverArray, ratesArray, constantArray, paymentsRow, paymentsRows, commonOf, sharedIn, flowArray, Prepared}
 use Rattle.planner.specs.declared.Common.{Common}
@@ -36,8 +36,8 @@ module _ {P : Numbers} (ok : Accepted P) where
   payment-within : (k j : ℕ) → Within most (P .a k j)
   payment-within k j = omega (whole, ok .payments k j)
 
-  pub constant-within : (k : ℕ) → Within most (sharedOf P .constantFlow k)
-  constant-within k = within-neg (ok .outflows k)
+  pub constant-within : (k : ℕ) → Within (most + most) (sharedOf P .constantFlow k)
+  constant-within k = let money : Within most (P .b k) = omega (whole, ok .opening k) in within-sub money (ok .outflows k)
 
   -- the parts come to 1,000,000, so the instruments together pay within the most that one may
   paid-within : (k : ℕ) → Within (most * million) (paid (P .instruments) (P .a) (P .p) k)
@@ -56,10 +56,10 @@ no-flow S k none e = ap₂ (λ (s c : ℤ). floor s million +ℤ c)
 
 -- the flow of Q is 0 before year 1 and past year N
 constant-before : (plan : Plan) → sharedOf (numbers plan) .constantFlow 0 ≡ pos 0
-constant-before plan = ap negℤ (outflow-before plan)
+constant-before plan = ap₂ _-ℤ_ (opening-before plan) (outflow-before plan)
 
 constant-past : (plan : Plan) (k : ℕ) → plan .years < k → sharedOf (numbers plan) .constantFlow k ≡ pos 0
-constant-past plan k l = ap negℤ (outflow-past plan k l)
+constant-past plan k l = ap₂ _-ℤ_ (opening-past plan k l) (outflow-past plan k l)
 
 -- a function of an entry
 entry-of : {A B : Type 0} (g : A → B) (z : A) (n : ℕ) (f : ℕ → A) (j : ℕ) → entry (g z) n (λ j. g (f j)) j ≡ g (entry z n f j)

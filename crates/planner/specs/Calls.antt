@@ -3,7 +3,7 @@ use mathlib.Core.Bool.{Bool}
 use mathlib.Core.List.{List}
 use Prim.Native.Nat.{ℕ, _+_}
 use lib.ListN.{replicate}
-use lib.IntN.{ℤ, pos, negℤ}
+use lib.IntN.{ℤ, pos, _-ℤ_}
 use Rattle.whole.specs.Test.{pick, both, all, isFrom}
 use Rattle.whole.specs.Table.{table}
 use Rattle.reckoning.specs.Reckoning.{flow, fund}
@@ -39,13 +39,14 @@ pub record Shared : Type 0 where
   pub r : (d : ℕ) → ℕ
   pub p : (j : ℕ) → ℕ
 
--- of a plan: the flow of Q is -o
+-- of a plan. In year k the allocation's flow is what it pays and b_k - o_k (document 004, equation 2'), and x_k has 1,000,000 times as
+-- much: money already invested comes in and outflows go out, whatever the allocation is. So b - o is the flow of Q.
 abbrev pub sharedOf : Numbers → Shared
 sharedOf P = record {
   years = P .years;
   instruments = P .instruments;
   a = P .a;
-  constantFlow = λ k. negℤ (P .o k);
+  constantFlow = λ k. P .b k -ℤ P .o k;
   r = P .r;
   p = P .p;
 }

@@ -1,10 +1,13 @@
--- Document 01, "Edges": the starred cases of the funds and the words, and all starred cases in one list.
+-- Document 01, "Edges": the starred cases of the funds and the words, and all starred cases in one list. Beside them, what money already
+-- invested does.
+use mathlib.Core.Bool.{true, false}
 use mathlib.Core.List.{List, [], _∷_, _++_}
 use lib.IntN.{pos, negsuc}
 use Rattle.whole.specs.Case.{Case, shareCases}
 use Rattle.reckoning.specs.Case.{boundCases, gammaCases}
 use Rattle.plan.specs.Numbers.{numbers}
-use Rattle.plan.specs.Case.{planL, oneYear}
+use Rattle.plan.specs.Case.{planL, renewed, oneYear}
+use Rattle.planner.specs.Calls.{sharedOf, exactFlowOf, constantAt}
 use Rattle.planner.specs.Verdict.{solvent, short, close, fundOf, patternWord}
 
 -- the funds of L: -5200000 and 12200000
@@ -24,3 +27,14 @@ wordCases =
 
 abbrev pub starredCases : List Case
 starredCases = shareCases ++ (boundCases ++ (gammaCases ++ (fundCases ++ wordCases)))
+
+-- outflow 1080000002, which is short: with 2 already invested it is solvent, with 1 close, and with 2 that are not held short. With 2, the
+-- exact flow is 0 and Q is -1080000000.
+unfoldable pub openingCases : List Case
+openingCases =
+    record { given = pos (patternWord (numbers (renewed (pos 1_080_000_002) true (pos 2))) 1); stated = pos solvent }
+    ∷ record { given = pos (patternWord (numbers (renewed (pos 1_080_000_002) true (pos 1))) 1); stated = pos close }
+    ∷ record { given = pos (patternWord (numbers (renewed (pos 1_080_000_002) false (pos 2))) 1); stated = pos short }
+    ∷ record { given = exactFlowOf (sharedOf (numbers (renewed (pos 1_080_000_002) true (pos 2)))) 1; stated = pos 0 }
+    ∷ record { given = constantAt (sharedOf (numbers (renewed (pos 1_080_000_002) true (pos 2)))) (λ l. pos 0); stated = negsuc 1_079_999_999 }
+    ∷ []

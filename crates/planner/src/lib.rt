@@ -4,6 +4,7 @@ use reckoning::GammaTable;
 use reckoning::Reckoned;
 use reckoning::Row;
 ghost use mathlib.Core.Path.{_≡_};
+ghost use mathlib.Core.Bool.{false};
 ghost use Prim.Native.Nat.{_+_, _≤_, _<_};
 ghost use lib.Dec.{eqb};
 ghost use lib.ListN.{getD};
@@ -19,6 +20,7 @@ ghost use Rattle.planner.specs.Verdict.{short, wordOf, bitsOf, noPattern
 ghost use Rattle.planner.specs.Arrays.{rolloverArray, ratesArray, constantArray, paymentsRows, commonOf, sharedIn, flowArray, columnOf, Weighable, Prepared};
 ghost use Rattle.planner.specs.Rows.{coefficientsReckoned, refusedRow, rowReckoned, noJudgement, verdictOf};
 ghost use Rattle.planner.specs.Demand3.{FundNear, FormNear, VerdictTrue};
+ghost use Rattle.planner.specs.Plain.{Plain};
 
 pub struct BoundAnswer {
     pub refusal: u8,
@@ -103,16 +105,18 @@ fn payments_of(plan: Plan) -> [[i64; 30]; 16]
     rows
 }
 
-// The flow of Q, which no allocation changes: -o in years 1 to N, and zeros past them.
+// The flow of Q, which no allocation changes: b - o in years 1 to N, and zeros past them.
 fn constant_flow_of(plan: Plan) -> [i64; 30]
     requires { ⌜ Accepted (numbers plan) ⌝ }
     ensures { λ s. ⌜ s ≡ constantArray (numbers plan) ⌝ }
 {
     let years = plan.years;
+    let opened = plan.opened;
+    let b = plan.opening;
     let o = plan.outflows;
     let mut v = [0i64; 30];
     for k in 0..years {
-        v[k] = 0 - o[k];
+        v[k] = plan::amount_held(opened, b[k]) - o[k];
     }
     v
 }
@@ -307,6 +311,7 @@ fn call_refusal(plan: Plan, t: usize) -> u8
 pub fn fund(plan: Plan, t: usize) -> Reckoned
     ensures is { λ s. ⌜ s ≡ fundAnswer (numbers plan) t ⌝ }
     ensures near { λ s. ⌜ FundNear (numbers plan) t s ⌝ }
+    ensures plain { λ _. ⌜ (plan .opened ≡ false → Plain (numbers plan)) ⌝ }
 {
     let no = call_refusal(plan, t);
     if no != 0 {
@@ -347,6 +352,7 @@ pub fn bound(plan: Plan, t: usize) -> BoundAnswer
 pub fn form(plan: Plan, t: usize) -> FormAnswer
     ensures is { λ s. ⌜ s ≡ formAnswer (numbers plan) t ⌝ }
     ensures near { λ s. ⌜ FormNear (numbers plan) t s ⌝ }
+    ensures plain { λ _. ⌜ (plan .opened ≡ false → Plain (numbers plan)) ⌝ }
 {
     let no = call_refusal(plan, t);
     if no != 0 {
@@ -618,6 +624,7 @@ pub fn judge(plan: Plan) -> Judgement
 pub fn verdict(plan: Plan) -> VerdictAnswer
     ensures is { λ s. ⌜ s ≡ verdictAnswer (numbers plan) ⌝ }
     ensures near { λ s. ⌜ VerdictTrue (numbers plan) s ⌝ }
+    ensures plain { λ _. ⌜ (plan .opened ≡ false → Plain (numbers plan)) ⌝ }
 {
     let j = judge(plan);
     j.verdict

@@ -18,14 +18,14 @@ use Rattle.little_endian.specs.TwosComplement.{signedOf}
 use Rattle.records.specs.Cursor.{kindAt, bodyAt}
 use Rattle.plan.specs.declared.Shape.{Shape}
 use Rattle.plan.specs.declared.Plan.{Plan}
-use Rattle.plan.specs.Held.{Held, shapeOf, unheldInstrument, unheldPattern, noInstrument, noPattern, noPlan, instrumentFrom, patternFrom, planFrom}
+use Rattle.plan.specs.Held.{Held, flag, openings, shapeOf, unheldInstrument, unheldPattern, noInstrument, noPattern, noPlan, instrumentFrom, patternFrom, planFrom}
 use Rattle.planfile.specs.Kinds.{roleOf}
 use Rattle.planfile.specs.Groups.{groupsOf, total, spotAt, countOf}
 use Rattle.planfile.specs.Rows.{instrumentIn, patternIn}
 use Rattle.planfile.specs.Checks.{rolesOk}
 use Rattle.planfile.specs.Records.{recordIn, heldOf}
 use Rattle.planfile.proofs.Checks.{role-there}
-use Rattle.planfile.proofs.Groups.{spot-back}
+use Rattle.planfile.proofs.Groups.{held-few, held-all, spot-back}
 use Rattle.planfile.proofs.Seen.{seen, bump, seen-none, seen-all, seen-index, seen-more}
 use Rattle.reader.specs.Reading.{amountsRead, ratesRead, sharesRead}
 
@@ -66,6 +66,8 @@ planSeen H c =
       rollover = table 30 (once (c 4) 0 (h .terms)) (λ d. H .rollover (1 + d)) 0;
       pattern = table 64 (c 5) (λ t. patternFrom (h .years) (H .pattern (1 + t))) noPattern;
       allocation = table 16 (once (c 6) 0 (h .instruments)) (λ j. H .allocation (1 + j)) 0;
+      opened = once (c 1) false (h .opened);
+      opening = table 30 (once (c 7) 0 (openings h)) (λ k. H .opening (1 + k)) (pos 0);
     }
 
 -- a plan, but what is of one role taken from another
@@ -80,6 +82,8 @@ changed role plan other = record {
   rollover = pick (eqb role 4) (other .rollover) (plan .rollover);
   pattern = pick (eqb role 5) (other .pattern) (plan .pattern);
   allocation = pick (eqb role 6) (other .allocation) (plan .allocation);
+  opened = pick (eqb role 1) (other .opened) (plan .opened);
+  opening = pick (eqb role 7) (other .opening) (plan .opening);
 }
 
 pick-back : {A : Type 0} (b : Bool) (x y : A) → pick b x (pick b y x) ≡ x
@@ -92,6 +96,11 @@ changed-back role plan other = simp pick-back
 -- what is read into an array is what is held there
 array-in : {A : Type 0} (m n : ℕ) (f : ℕ → A) (d : A) → table m n f d ≡ table m n (λ k. entry d n f (1 + k)) d
 array-in m n f d = table-cong m n f _ d (λ k l. sym (entry-at d n f k l))
+
+-- after the last record, all that is held of a kind that may be absent was seen
+once-held : (isHeld : Bool) (n : ℕ) → once (flag isHeld) 0 (pick isHeld n 0) ≡ pick isHeld n 0
+once-held true n = refl
+once-held false n = refl
 
 -- ---- record after record
 module _ (s : List ℕ) (h : Shape) where
@@ -108,7 +117,7 @@ module _ (s : List ℕ) (h : Shape) where
 
   pub after-all : planAfter (total (groupsOf h)) ≡ planFrom H
   unfolding planAfter planSeen planFrom heldOf groupsOf countOf
-  after-all = rw seen-all
+  after-all = rw (seen-all, once-held (h .opened) (h .years))
 
   -- the row of an instrument, and that of a pattern
   instrument-in : (j : ℕ) → j < h .instruments → record { payments = amountsRead (h .years) (recordIn s h 2 j .body) } ≡ instrumentFrom (h .years) (H .instrument (1 + j))
@@ -164,3 +173,17 @@ module _ (s : List ℕ) (h : Shape) where
     fill-allocation k kept e =
         let f = sole k (omega arith) in
         next 6 k kept (rw (f .before, e, handed, f .body, array-in 16 (h .instruments) (numberAt 4 (recordIn s h 6 0 .body)) 0))
+
+    pub fill-opening : {j : ℕ} → Turn s h t 7 j → changed 7 q p ≡ p → q .opening ≡ amountsRead (h .years) body → q ≡ planAfter (t + 1)
+    unfolding planAfter planSeen heldOf groupsOf countOf
+    fill-opening k kept e =
+        let f = sole k (held-few (h .opened)) in
+        next 7 k kept
+        (rw (
+          f .before,
+          held-all (h .opened) (f .few) (h .years),
+          e,
+          handed,
+          f .body,
+          array-in 30 (h .years) (λ k. signedOf 8 (numberAt 8 (recordIn s h 7 0 .body) k)) (pos 0),
+        ))

@@ -1,11 +1,13 @@
 -- What the reader's own functions require and ensure of one another. Nothing that `read` promises rests on these definitions.
+use mathlib.Core.Bool.{false}
 use mathlib.Core.List.{List}
 use Prim.Native.Nat.{ℕ, _-_, _≤_}
 use lib.IntN.{ℤ, pos}
-use lib.ListN.{length, take, drop}
+use lib.ListN.{length, getD, take, drop}
 use Rattle.whole.specs.Table.{table}
 use Rattle.little_endian.specs.TwosComplement.{signedOf}
 use Rattle.little_endian.specs.Runs.{numberAt}
+use Rattle.plan.specs.declared.Shape.{Shape}
 
 -- a file has the places from a start up to an end, and the bytes that stand there
 pub record Inside (s : List ℕ) (start end : ℕ) : Type 0 where
@@ -14,6 +16,10 @@ pub record Inside (s : List ℕ) (start end : ℕ) : Type 0 where
 
 abbrev pub partOf : List ℕ → (start end : ℕ) → List ℕ
 partOf s start end = take (end - start) (drop start s)
+
+-- the four numbers of a file's first record, in a shape with no kind that may be absent
+abbrev pub headIn : List ℕ → Shape
+headIn s = record { years = getD s 4 0; instruments = getD s 5 0; terms = getD s 6 0; patterns = getD s 7 0; opened = false }
 
 -- the first n numbers of a body in an array, with zeros past them: amounts, rates, and shares in an array of m
 abbrev pub amountsRead : (n : ℕ) → (body : List ℕ) → List ℤ

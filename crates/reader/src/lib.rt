@@ -12,12 +12,12 @@ ghost use lib.ListN.{length, replicate};
 ghost use Rattle.records.specs.Cursor.{nextAt, wholeFile};
 ghost use Rattle.plan.specs.Held.{noPlan, planFrom};
 ghost use Rattle.planfile.specs.Groups.{groupsOf};
-ghost use Rattle.planfile.specs.Checks.{shapeIn, firstOk, rolesOk, sizesOk, layoutRefusal};
+ghost use Rattle.planfile.specs.Checks.{hasRole, shapeIn, firstOk, rolesOk, sizesOk, layoutRefusal};
 ghost use Rattle.planfile.specs.Records.{recordIn, heldOf};
 ghost use Rattle.planfile.specs.Read.{readAnswer};
 ghost use Rattle.planfile.specs.Demand2.{OneFile};
 ghost use Rattle.planfile.specs.Reading.{InRange, Laid};
-ghost use Rattle.reader.specs.Reading.{Inside, partOf, amountsRead, ratesRead, sharesRead};
+ghost use Rattle.reader.specs.Reading.{Inside, partOf, headIn, amountsRead, ratesRead, sharesRead};
 
 // ---- the cursor
 
@@ -96,10 +96,41 @@ fn whole_file(file: &[u8]) -> bool
     }
 }
 
-// The shape of a file: the four numbers of its first record.
-fn shape_in(file: &[u8]) -> Shape
+// Whether record t, counted from 0, is there and has this role.
+fn has_role(file: &[u8], t: usize, role: usize) -> bool
+    ensures { λ b. ⌜ b ≡ hasRole (now (file .entry)) t role ⌝ }
+{
+    let mut at = 0;
+    for u in 0..t {
+        let next = record_at(file, at);
+        match next {
+            Next::Record {
+                kind: _,
+                start: _,
+                end,
+            } => {
+                at = end;
+            }
+            Next::Stop { left: _ } => {
+                return false;
+            }
+        }
+    }
+    let next = record_at(file, at);
+    match next {
+        Next::Record {
+            kind,
+            start: _,
+            end: _,
+        } => planfile::role_of(kind) == role,
+        Next::Stop { left: _ } => false,
+    }
+}
+
+// The four numbers of a file's first record, in a shape with no kind that may be absent: no record after the first is looked at.
+fn head_in(file: &[u8]) -> Shape
     requires { ⌜ 8 ≤ length (now file) ⌝ }
-    ensures { λ r. ⌜ r ≡ shapeIn (now (file .entry)) ⌝ }
+    ensures { λ r. ⌜ r ≡ headIn (now (file .entry)) ⌝ }
 {
     let body = body_at(file, 4, 8);
     let years = body[0] as usize;
@@ -111,7 +142,19 @@ fn shape_in(file: &[u8]) -> Shape
         instruments,
         terms,
         patterns,
+        opened: false,
     }
+}
+
+// The shape of a file: the four numbers of its first record, and whether a kind 7 stands right after where kind 3 stands.
+fn shape_in(file: &[u8]) -> Shape
+    requires { ⌜ 8 ≤ length (now file) ⌝ }
+    ensures { λ r. ⌜ r ≡ shapeIn (now (file .entry)) ⌝ }
+{
+    let mut shape = head_in(file);
+    let n = shape.instruments;
+    shape.opened = has_role(file, 2 + n, 7);
+    shape
 }
 
 // Check 3: the first record is a kind 1 of four bytes, whose numbers are in their ranges.
@@ -127,7 +170,7 @@ fn first_ok(file: &[u8]) -> bool
             if end - start != 4 {
                 return false;
             }
-            plan::shape_ok(shape_in(file))
+            plan::shape_ok(head_in(file))
         }
         Next::Stop { left: _ } => false,
     }
@@ -268,6 +311,8 @@ fn no_plan() -> Plan
         rollover: [0u32; 30],
         pattern: [Pattern { rates: [0i32; 30] }; 64],
         allocation: [0u32; 16],
+        opening: [0i64; 30],
+        opened: false,
     }
 }
 
@@ -295,6 +340,7 @@ fn plan_in(file: &[u8], shape: Shape) -> Plan
                         plan.instruments = shape.instruments;
                         plan.terms = shape.terms;
                         plan.patterns = shape.patterns;
+                        plan.opened = shape.opened;
                     }
                     2 => {
                         let payments = amounts(body, shape.years);
@@ -317,7 +363,10 @@ fn plan_in(file: &[u8], shape: Shape) -> Plan
                         shares(body, shape.instruments, &mut allocation);
                         plan.allocation = allocation;
                     }
-                    7.. => {}
+                    7 => {
+                        plan.opening = amounts(body, shape.years);
+                    }
+                    8.. => {}
                 }
             }
             Next::Stop { left: _ } => {

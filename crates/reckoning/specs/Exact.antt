@@ -6,7 +6,7 @@ use Rattle.whole.specs.Sum.{Σℤ}
 use Rattle.whole.specs.Course.{course}
 use Rattle.reckoning.specs.Reckoning.{w, paid}
 
--- x_k: the exact flow of year k, in millionths of an amount; c_k, which no allocation changes, is -o_k
+-- x_k: the exact flow of year k, in millionths of an amount; c_k, which no allocation changes, is b_k - o_k
 unfoldable pub x : (n : ℕ) (a : ℕ → ℕ → ℤ) (c : ℕ → ℤ) (p : ℕ → ℕ) → ℕ → ℤ
 x n a c p k = paid n a p k +ℤ pos million *ℤ c k
 

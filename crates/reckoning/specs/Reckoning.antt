@@ -15,7 +15,7 @@ w r d = million - Σℕ 1 d r
 unfoldable pub paid : (n : ℕ) (a : ℕ → ℕ → ℤ) (p : ℕ → ℕ) → ℕ → ℤ
 paid n a p k = Σℤ 1 n (λ j. a k j *ℤ pos (p j))
 
--- the allocation's flow in year k: what it pays, in whole amounts, and c_k, which no allocation changes (-o_k)
+-- the allocation's flow in year k: what it pays, in whole amounts, and c_k, which no allocation changes (b_k - o_k)
 unfoldable pub flow : (n : ℕ) (a : ℕ → ℕ → ℤ) (c : ℕ → ℤ) (p : ℕ → ℕ) → ℕ → ℤ
 flow n a c p k = floor (paid n a p k) million +ℤ c k
 

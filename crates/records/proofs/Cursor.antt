@@ -7,7 +7,7 @@ use Prim.Native.Nat.{ℕ, zero, suc, _+_, _-_, _≤_, _<_}
 use native.Mathlib.Nat.{add-assoc}
 use native.Mathlib.Numerals.{add-one}
 use native.Mathlib.Omega.{arith}
-use borrow.Author.Tests.{le-ltb, lt-ltb, le-leb, lt-leb, leb-true, eq-eqb, ne-eqb}
+use borrow.Author.Tests.{le-ltb, lt-ltb, le-leb, lt-leb, leb-true, leb-false, eq-eqb, ne-eqb}
 use lib.Dec.{leb, ltb, eqb}
 use lib.ListN.{length, getD, take, drop, length-drop}
 use lib.Seq.{length-take-le, take-add, take-length, drop-drop}
@@ -40,6 +40,9 @@ module _ (s : List ℕ) (at : ℕ) where
 
   pub whole-end : wholeAt s at ≡ true → endFrom s at ≤ length s
   whole-end h = leb-true _ _ (sym whole-by-end ∙ h)
+
+  ends-past : wholeAt s at ≡ false → length s < endFrom s at
+  ends-past h = leb-false _ _ (sym whole-by-end ∙ h)
 
   -- what the cursor then gives
   pub next-record : wholeAt s at ≡ true → nextAt s at ≡ Record (leAt 2 (at + 2) s) (at + 4) (endFrom s at)
@@ -118,6 +121,15 @@ module _ (s : List ℕ) (t : ℕ) where
 
     pub length-next : e - a ≡ length (bodyAt s t)
     length-next = let w = next-known s (place s t) k a e n in omega (arith, w .start, w .end, length-body (w .whole))
+
+-- where a record is not whole, no later one is
+pub none-later : (s : List ℕ) (u t : ℕ) → u ≤ t → wholeAt s (place s u) ≡ false → wholeAt s (place s t) ≡ false
+unfolding place
+none-later s u zero h w = let e : 0 ≡ u = omega arith in ap (λ (t : ℕ). wholeAt s (place s t)) e ∙ w
+none-later s u (suc t) h w = ⊎-elim
+    (λ (l : u < suc t). whole-no s (place s (suc t)) (omega (arith, ends-past s (place s t) (none-later s u t (omega arith) w))))
+    (λ (l : suc t ≤ u). let e : suc t ≡ u = omega arith in ap (λ (t : ℕ). wholeAt s (place s t)) e ∙ w)
+    (ℕ-cases u (suc t))
 
 -- ---- check 2
 -- whole records from a place on to the end of the file

@@ -64,6 +64,12 @@ module _ {A : Type 0} (z : A) (n : ℕ) (f : ℕ → A) where
   nth-table m few zero = refl
   nth-table m few (suc j) = table-cut m few j
 
+-- of no entries, every one is z
+pub entry-empty : {A : Type 0} (z : A) (f : ℕ → A) (k : ℕ) → entry z 0 f k ≡ z
+unfolding entry
+entry-empty z f zero = refl
+entry-empty z f (suc j) = cut-past z 0 f j (omega arith)
+
 -- an index that is 0 or past the last entry
 pub nth-outside : {A : Type 0} (z : A) (xs : List A) (k : ℕ) → (0 < k → length xs < k) → nth z xs k ≡ z
 unfolding nth

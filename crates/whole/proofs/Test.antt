@@ -25,9 +25,18 @@ pub both-second : (a b : Bool) → both a b ≡ true → b ≡ true
 both-second true b e = e
 both-second false b e = absurd (false-true e)
 
+pub both-yes : (a : Bool) → both a true ≡ a
+both-yes true = refl
+both-yes false = refl
+
 pub both-not : (a : Bool) → both a false ≡ false
 both-not true = refl
 both-not false = refl
+
+-- ---- n, or none
+pub pick-few : (b : Bool) (n : ℕ) → pick b n 0 ≤ n
+pick-few true n = omega arith
+pick-few false n = omega arith
 
 -- ---- an answer that a test picks: which way it went shows in its refusal, a number that is 0 in the one and not in the other
 module _ {A : Type 0} (refusal : A → ℕ) (x y : A) (ok : refusal x ≡ 0) (bad : refusal y ≡ 0 → ⊥) where

@@ -163,6 +163,10 @@ fn put_record(b: &mut [u8], at: usize, plan: Plan, role: usize, j: usize) -> usi
             let allocation = plan.allocation;
             put_shares_record(b, at, 6, &allocation, plan.instruments)
         }
+        7 => {
+            let opening = plan.opening;
+            put_amounts_record(b, at, 7, &opening, years)
+        }
         _ => at,
     }
 }

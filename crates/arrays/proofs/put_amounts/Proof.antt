@@ -1,4 +1,4 @@
--- `arrays::put_amounts` puts down row after row (Copying, `Joining`), and then the outflows.
+-- `arrays::put_amounts` puts down row after row (Copying, `Joining`), and then the outflows and the money already invested.
 use mathlib.Core.Path.{_≡_}
 use Prim.Native.Nat.{_-_}
 use native.Mathlib.Omega.{arith}
@@ -11,7 +11,7 @@ use Rattle.arrays.proofs.put_amounts.Statement.{statement}
 use Rattle.arrays.proofs.put_amounts.Tie as tie
 
 abbrev Inv-loop : tie.InvT-loop
-Inv-loop plan out₀ rows j₀ out j = Joining 510 16 (λ j. instrumentAt plan j .payments) out j
+Inv-loop plan out₀ rows j₀ out j = Joining 540 16 (λ j. instrumentAt plan j .payments) out j
 
 abbrev μ-loop : tie.MeasureT-loop
 μ-loop plan out₀ rows j₀ out j = 16 - j
@@ -27,13 +27,19 @@ loop-again c =
 outflows-few : (s : tie.Start Inv-loop μ-loop) → length (s .args .plan .outflows) ≡ 30
 outflows-few s = search needs
 
+opening-few : (s : tie.Start Inv-loop μ-loop) → length (s .args .plan .opening) ≡ 30
+opening-few s = search needs
+
 returns : tie.Need-returns Inv-loop μ-loop
 unfolding allAmounts
 returns c =
     let b = c .before in
-    let l = b .before .before .before in
-    let few = outflows-few (l .before .before .before) in
-    front-all (omega arith) (front-more _ (join-end (l .loop-test .left) (l .before .loop .inv)) (omega arith) (b .copy-i64-arg2 .given .0 .1) few (c .copy-i642 .ensures))
+    let o = b .before .before .before in
+    let a = o .before in
+    let l = a .before .before .before in
+    let s = l .before .before .before in
+    let front = front-more _ (join-end (l .loop-test .left) (l .before .loop .inv)) (omega arith) (a .copy-i64-arg2 .given .0 .1) (outflows-few s) (o .copy-i642 .ensures) in
+    front-all (omega arith) (front-more _ front (omega arith) (b .copy-i64-arg3 .given .0 .1) (opening-few s) (c .copy-i643 .ensures))
 
 pub put-amounts-spec : {M : Type 1} → statement M
 put-amounts-spec =
@@ -48,4 +54,6 @@ put-amounts-spec =
     loop-again
     (λ c. search needs)
     (λ c κs. omega (arith, outflows-few (c .before .before .before .before .before .before)))
+    (λ c. search needs)
+    (λ c κs. omega (arith, opening-few (c .before .before .before .before .before .before .before .before .before .before)))
     returns)

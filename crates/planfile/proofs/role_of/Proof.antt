@@ -36,8 +36,12 @@ unfolding roleOf nth
 returns-7 c = rw (c .match .keys7)
 
 returns-8 : tie.Need-returns-8
+unfolding roleOf nth
+returns-8 c = rw (c .match .keys8)
+
+returns-9 : tie.Need-returns-9
 unfolding roleOf
-returns-8 c = sym (nth-outside 0 roles _ (λ l. past 7 (c .match .rest)))
+returns-9 c = sym (nth-outside 0 roles _ (λ l. past 8 (c .match .rest)))
 
 pub role-of-spec : {M : Type 1} → statement M
 role-of-spec =
@@ -50,4 +54,5 @@ role-of-spec =
     returns-5
     returns-6
     returns-7
-    returns-8)
+    returns-8
+    returns-9)

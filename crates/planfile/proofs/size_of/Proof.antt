@@ -37,15 +37,19 @@ unfolding sizeOf nth
 returns-7 c = rw (c .before .match .keys7)
 
 returns-8 : tie.Need-returns-8
+unfolding sizeOf nth
+returns-8 c = rw (c .before .match .keys8)
+
+returns-9 : tie.Need-returns-9
 unfolding sizeOf
-returns-8 c = sym (nth-outside 0 _ _ (λ l. past 7 (c .match .rest)))
+returns-9 c = sym (nth-outside 0 _ _ (λ l. past 8 (c .match .rest)))
 
 pub size-of-spec : {M : Type 1} → statement M
 size-of-spec =
     tie.close
     (tie.spec
     (λ c. search needs) (λ c. search needs) (λ c. search needs) (λ c. search needs) (λ c. search needs)
-    (λ c. search needs)
+    (λ c. search needs) (λ c. search needs)
     returns
     returns-2
     returns-3
@@ -53,4 +57,5 @@ size-of-spec =
     returns-5
     returns-6
     returns-7
-    returns-8)
+    returns-8
+    returns-9)

@@ -6,7 +6,7 @@ use Rattle.planner.proofs.verdict.Statement.{statement}
 use Rattle.planner.proofs.verdict.Tie as tie
 
 returns : tie.Need-returns
-returns c = verdict-answered _ (verdict-judged _ (c .before .judge .ensures))
+returns c = verdict-answered (c .before .before .args .plan) (verdict-judged _ (c .before .judge .ensures))
 
 pub verdict-spec : {M : Type 1} → statement M
 verdict-spec =

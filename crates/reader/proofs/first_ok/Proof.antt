@@ -10,6 +10,7 @@ use Rattle.records.specs.Cursor.{nextAt}
 use Rattle.records.specs.declared.Next.the-variants.{Record}
 use Rattle.records.proofs.Cursor.{next-known}
 use Rattle.plan.specs.Refusal.{shapeOk}
+use Rattle.planfile.specs.Checks.{shapeIn}
 use Rattle.planfile.proofs.Checks.{first-found, first-missing}
 use Rattle.reader.proofs.first_ok.Statement.{statement}
 use Rattle.reader.proofs.first_ok.Tie as tie
@@ -33,15 +34,17 @@ returns-2 c =
     let d = c .before .before in
     rw (first-found (s d) _ _ _ (found d), eq-eqb _ _ (c .before .if1 .left), ne-eqb _ _ (c .if2 .taken))
 
-shape-in-requires : tie.Need-shape-in-requires
-shape-in-requires c κs = let d = c .before .before in omega (arith, next-known (s d) 0 _ _ _ (found d))
+head-in-requires : tie.Need-head-in-requires
+head-in-requires c κs = let d = c .before .before in omega (arith, next-known (s d) 0 _ _ _ (found d))
 
+-- the ranges are those of the four numbers, whatever the rest of the shape is
 returns-3 : tie.Need-returns-3
+unfolding shapeOk shapeIn
 returns-3 c =
     let e = c .before .before in
     let d = e .before .before in
     rw (first-found (s d) _ _ _ (found d), eq-eqb _ _ (e .before .if1 .left), eq-eqb _ _ (e .if2 .left))
-    (c .shape-ok .ensures ∙ ap shapeOk (c .before .shape-in .ensures))
+    (c .shape-ok .ensures ∙ ap shapeOk (c .before .head-in .ensures))
 
 returns-4 : tie.Need-returns-4
 returns-4 c = sym (first-missing (now (c .before .before .before .before .args .file)) _ (sym (c .before .before .record-at .ensures) ∙ c .enum-told .given .1))
@@ -54,7 +57,7 @@ first-ok-spec =
     returns
     sub-if2
     returns-2
-    shape-in-requires
+    head-in-requires
     (λ c κs. search needs) (λ c. search needs)
     returns-3
     returns-4)

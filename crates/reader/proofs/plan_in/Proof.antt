@@ -21,7 +21,7 @@ use Rattle.planfile.specs.Reading.{InRange}
 use Rattle.planfile.proofs.Checks.{none-missing, size-there}
 use Rattle.planfile.proofs.Kind.{past}
 use Rattle.planfile.proofs.Groups.{role-some}
-use Rattle.reader.proofs.Filling.{Turn, turn, planAfter, after-none, after-all, fill-head, fill-instrument, fill-outflows, fill-rollover, fill-pattern, fill-allocation}
+use Rattle.reader.proofs.Filling.{Turn, turn, planAfter, after-none, after-all, fill-head, fill-instrument, fill-outflows, fill-rollover, fill-pattern, fill-allocation, fill-opening}
 use Rattle.reader.proofs.plan_in.Statement.{statement}
 use Rattle.reader.proofs.plan_in.Tie as tie
 
@@ -136,6 +136,10 @@ shares-requires-2 : tie.Need-shares-requires-2 Inv-loop μ-loop
 unfolding sizeOf nth
 shares-requires-2 c κs = let r = range (c .before .before) in let size = sized (c .before .before) (c .before .match2 .keys7) in (omega arith, (omega arith, refl))
 
+amounts-requires-3 : tie.Need-amounts-requires-3 Inv-loop μ-loop
+unfolding sizeOf nth
+amounts-requires-3 c κs = let r = range (c .before) in let size = sized (c .before) (c .match2 .keys8) in (omega arith, omega arith)
+
 returns : tie.Need-returns Inv-loop μ-loop
 returns c =
     let loop = c .before .before .before .before in
@@ -163,6 +167,7 @@ put c =
     ∥ (λ u. u .4 ∙ fill-rollover _ _ p given (turned b (u .0 .keys5)) refl (u .2 .ensures))
     ∥ (λ u. u .3 ∙ fill-pattern _ _ p given (turned b (u .0 .keys6)) refl refl (u .2 .ensures) (pattern-few b (u .0 .keys6)))
     ∥ (λ u. u .4 ∙ fill-allocation _ _ p given (turned b (u .0 .keys7)) refl (u .2 .ensures))
+    ∥ (λ u. u .2 ∙ fill-opening _ _ p given (turned b (u .0 .keys8)) refl (u .1 .ensures))
     ∥ (λ u. absurd (none b refl (nth-outside 0 roles _ (λ l. past (suc (length roles)) (u .0 .rest))))))
     (c .match2 .came)
 
@@ -201,6 +206,7 @@ plan-in-spec =
     element-set-from-plan-2
     (λ c. search needs)
     shares-requires-2
+    amounts-requires-3
     (λ c. search needs)
     returns
     (λ c. search needs) (λ c. omega arith)

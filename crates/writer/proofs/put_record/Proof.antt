@@ -17,6 +17,7 @@ use Rattle.planfile.specs.Records.{recordOf}
 use Rattle.planfile.proofs.Kind.{past-from}
 use Rattle.planfile.proofs.Groups.{role-some}
 use Rattle.writer.proofs.Role.{role-few}
+use Rattle.writer.proofs.Row.{opening}
 use Rattle.writer.proofs.put_record.Statement.{statement}
 use Rattle.writer.proofs.put_record.Tie as tie
 
@@ -123,14 +124,37 @@ returns-4 c =
 same-length-4 : tie.Need-same-length-4
 same-length-4 c = wrote-length (returns-4 c)
 
--- ---- no other
+-- ---- 7: the money already invested
+slice-aggregate-put-amounts-record-2 : tie.Need-slice-aggregate-put-amounts-record-2
+slice-aggregate-put-amounts-record-2 c = search needs
+
+put-amounts-record-requires-2 : tie.Need-put-amounts-record-requires-2
+put-amounts-record-requires-2 c κs =
+    let m = c .before .before .before in
+    let s = m .before .before in
+    let few = s .pre .0 .years-few in
+    let key = m .match .keys5 in
+    (few, (omega (arith, few, slice-aggregate-put-amounts-record-2 c), room s key (opening (plan s) (counted s key) refl)))
+
 returns-5 : tie.Need-returns-5
 returns-5 c =
+    let m = c .before .before .before .before .before .before in
+    let s = m .before .before in
+    let key = m .match .keys5 in
+    wrote s key (opening (plan s) (counted s key) refl) (c .before .before .put-amounts-record2 .ensures)
+
+same-length-5 : tie.Need-same-length-5
+same-length-5 c = wrote-length (returns-5 c)
+
+-- ---- no other
+returns-6 : tie.Need-returns-6
+returns-6 c =
     let s = c .before .before in
     let l = s .pre .1 .0 in
     let no = s .pre .1 .1 .0 in
     let r = c .match .rest in
-    absurd (omega (arith, role-few (held (plan s)) _ _ l, past-from 1 6 (role-some _ _ _ l) (((((r .0 .0 .0, no .instrument), r .0 .0 .1), r .0 .1), no .pattern), r .1)))
+    let past = past-from 1 7 (role-some _ _ _ l) ((((((r .0 .0 .0 .0, no .instrument), r .0 .0 .0 .1), r .0 .0 .1), no .pattern), r .0 .1), r .1) in
+    absurd (omega (arith, role-few (held (plan s)) _ _ l, past))
 
 pub put-record-spec : {M : Type 1} → statement M
 put-record-spec =
@@ -144,6 +168,8 @@ put-record-spec =
     put-shares-record-requires
     slice-aggregate-put-shares-record-2
     put-shares-record-requires-2
+    slice-aggregate-put-amounts-record-2
+    put-amounts-record-requires-2
     same-length
     returns
     same-length-2
@@ -152,4 +178,6 @@ put-record-spec =
     returns-3
     same-length-4
     returns-4
-    returns-5)
+    same-length-5
+    returns-5
+    returns-6)

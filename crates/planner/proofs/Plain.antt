@@ -1,0 +1,43 @@
+-- A plan without money already invested is one of document 01.
+use mathlib.Core.Path.{_≡_, refl, ap, _∙_, fun-ext}
+use mathlib.Core.Bool.{false}
+use Prim.Native.Nat.{ℕ}
+use lib.IntN.{pos, negℤ, _-ℤ_, _*ℤ_}
+use Rattle.whole.specs.Range.{million}
+use Rattle.whole.specs.Floor.{floor}
+use Rattle.whole.specs.Test.{both}
+use Rattle.whole.proofs.Bridge.{_⊕_, _⊖_, _⊗_, ⊝}
+use Rattle.whole.proofs.Solver.{ !, _≈_, ring}
+use Rattle.whole.proofs.Test.{both-yes}
+use Rattle.reckoning.specs.Reckoning.{paid, flow}
+use Rattle.reckoning.specs.Exact.{x}
+use Rattle.plan.specs.Numbers.{Numbers, numbers}
+use Rattle.plan.specs.Refusal.{paymentsOk, outflowsOk, amountsOk}
+use Rattle.plan.specs.declared.Plan.{Plan}
+use Rattle.plan.proofs.Held.{opening-none}
+use Rattle.plan.proofs.Checks.{opening-passes}
+use Rattle.planner.specs.Calls.{sharedOf, flowOf, exactFlowOf}
+use Rattle.planner.specs.Plain.{Plain}
+
+-- where nothing is added to -o
+module _ (P : Numbers) (none : (k : ℕ) → P .b k ≡ pos 0) where
+  same-amounts : amountsOk P ≡ both (paymentsOk P) (outflowsOk P)
+  unfolding amountsOk
+  same-amounts = rw (opening-passes P none) (ap (both (paymentsOk P)) (both-yes (outflowsOk P)))
+
+  same-flow : (k : ℕ) → flowOf (sharedOf P) k ≡ floor (paid (P .instruments) (P .a) (P .p) k) million -ℤ P .o k
+  unfolding flowOf flow
+  same-flow k = rw (none k) (ring 2 (λ f o. f ⊕ (! (pos 0) ⊖ o) ≈ f ⊖ o) refl (floor (paid (P .instruments) (P .a) (P .p) k) million) (P .o k))
+
+  same-exact : (k : ℕ) → exactFlowOf (sharedOf P) k ≡ paid (P .instruments) (P .a) (P .p) k -ℤ pos million *ℤ P .o k
+  unfolding exactFlowOf x
+  same-exact k = rw (none k) (ring 3 (λ f m o. f ⊕ m ⊗ (! (pos 0) ⊖ o) ≈ f ⊖ m ⊗ o) refl (paid (P .instruments) (P .a) (P .p) k) (pos million) (P .o k))
+
+  same-constant : (k : ℕ) → sharedOf P .constantFlow k ≡ negℤ (P .o k)
+  same-constant k = rw (none k) (ring 1 (λ o. ! (pos 0) ⊖ o ≈ ⊝ o) refl (P .o k))
+
+  pub plain-numbers : Plain P
+  plain-numbers = record { amounts = same-amounts; flow = fun-ext same-flow; exact = fun-ext same-exact; constant = fun-ext same-constant }
+
+pub plain-plan : (plan : Plan) → plan .opened ≡ false → Plain (numbers plan)
+plain-plan plan e = plain-numbers (numbers plan) (opening-none plan e)
