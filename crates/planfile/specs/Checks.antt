@@ -17,8 +17,8 @@ module _ (s : List ℕ) where
   unfoldable pub hasRole : (t role : ℕ) → Bool
   hasRole t role = both (wholeAt s (place s t)) (eqb (roleOf (kindAt s t)) role)
 
-  -- the shape of a file: the four numbers of its first record, and whether a kind 7 stands right after where kind 3 stands, which the head
-  -- and n instruments come before
+  -- the shape of a file: the four numbers of its first record, and whether a kind 7 stands right after where kind 3 stands: the head, n
+  -- instruments and the outflows come before it
   unfoldable pub shapeIn : Shape
   shapeIn =
       let n = getD s 5 0 in

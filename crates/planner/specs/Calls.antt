@@ -39,8 +39,8 @@ pub record Shared : Type 0 where
   pub r : (d : ℕ) → ℕ
   pub p : (j : ℕ) → ℕ
 
--- of a plan. In year k the allocation's flow is what it pays and b_k - o_k (document 004, equation 2'), and x_k has 1,000,000 times as
--- much: money already invested comes in and outflows go out, whatever the allocation is. So b - o is the flow of Q.
+-- of a plan. Document 004, equation 2': in year k the allocation's flow is what it pays, in whole amounts, and b_k - o_k; x_k is what it
+-- pays, in millionths, and 1,000,000 times b_k - o_k. No allocation changes b - o, which is so the flow of Q.
 abbrev pub sharedOf : Numbers → Shared
 sharedOf P = record {
   years = P .years;
