@@ -8,8 +8,8 @@
  *
  * A plan file goes in as bytes (any bytes: what is no plan file is refused), and the answer comes back in lent buffers. Each call
  * answers a refusal: PLANNER_ACCEPTED, or the number of the first check that fails. On a refusal every number of the answer is 0;
- * entries past the plan's own years, instruments, terms and patterns, and those of an opening that it does not hold, are always 0.
- * Amounts are whole numbers in the unit of the file, shares and rates are millionths. */
+ * entries past the plan's own years, instruments, terms and patterns are always 0, and so are those of the opening (what money already
+ * invested pays) where the plan holds none. Amounts are whole numbers in the unit of the file, shares and rates are millionths. */
 #ifndef PLANNER_H
 #define PLANNER_H
 

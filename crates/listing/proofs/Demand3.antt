@@ -4,9 +4,8 @@ use mathlib.Core.List.{List}
 use Prim.Native.Nat.{ℕ}
 use Rattle.plan.specs.declared.Plan.{Plan}
 use Rattle.planner.proofs.Demand3.{fund-near, form-near, verdict-true, row-near, row-bound}
-use Rattle.planner.proofs.Plain.{plain-numbers}
-use Rattle.planfile.specs.Read.{numbersIn, readAnswer}
-use Rattle.planfile.proofs.Answers.{unopened-none, read-numbers}
+use Rattle.planfile.specs.Read.{readAnswer}
+use Rattle.planfile.proofs.Answers.{read-numbers}
 use Rattle.listing.specs.Demand3.{Claims, OfPlan, OfFile}
 
 pub of-plan : (plan : Plan) → OfPlan plan
@@ -22,5 +21,4 @@ pub of-file : (s : List ℕ) → OfFile s
 of-file s = record {
   numbers-are = read-numbers s;
   claims = λ e. subst Claims (read-numbers s e) (of-plan (readAnswer s .plan));
-  plain = λ e. plain-numbers (numbersIn s) (unopened-none s e);
 }

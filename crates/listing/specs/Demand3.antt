@@ -1,7 +1,6 @@
 -- Demand 3, whole: what the answers say of Tilley's exact fund, for every plan held as values and for every file. FundNear, FormNear
 -- and VerdictTrue are the claims of planner's Demand3; the contracts of fund, form and verdict carry them.
 use mathlib.Core.Path.{_≡_}
-use mathlib.Core.Bool.{false}
 use mathlib.Core.List.{List}
 use Prim.Native.Nat.{ℕ, _≤_}
 use Rattle.reckoning.specs.Theorem.{FromBelow}
@@ -10,8 +9,6 @@ use Rattle.plan.specs.declared.Plan.{Plan}
 use Rattle.planner.specs.Calls.{exactFund, boundOf, fundAnswer, boundAnswer, formAnswer}
 use Rattle.planner.specs.Verdict.{rowOf, verdictAnswer}
 use Rattle.planner.specs.Demand3.{FundNear, FormNear, VerdictTrue}
-use Rattle.planner.specs.Plain.{Plain}
-use Rattle.planfile.specs.Checks.{shapeIn}
 use Rattle.planfile.specs.Read.{numbersIn, readAnswer}
 
 -- what is said of the numbers P: by the calls for any pattern number t, by the verdict, and by the row of each pattern, which is
@@ -27,9 +24,7 @@ pub record Claims (P : Numbers) : Type 0 where
 abbrev pub OfPlan : Plan → Type 0
 OfPlan plan = Claims (numbers plan)
 
--- of a file: what it is read as has the numbers that stand in its records, and the claims are about these; without money already invested
--- it is a file of document 01
+-- of a file: what it is read as has the numbers that stand in its records, and the claims are about these
 pub record OfFile (s : List ℕ) : Type 0 where
   pub numbers-are : readAnswer s .refusal ≡ 0 → numbers (readAnswer s .plan) ≡ numbersIn s
   pub claims : readAnswer s .refusal ≡ 0 → Claims (numbersIn s)
-  pub plain : shapeIn s .opened ≡ false → Plain (numbersIn s)

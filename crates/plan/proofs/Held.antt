@@ -99,7 +99,7 @@ module _ (plan : Plan) where
   unfolding openingHeld
   opening-none e = rw e (entry-empty (pos 0) (λ k. getD (plan .opening) k (pos 0)))
 
-  -- year 0 has no payment and no outflow, nor has a year past the last
+  -- in year 0 nothing is paid and nothing goes out, nor past the last year
   pub payment-before : (j : ℕ) → numbers plan .a 0 j ≡ pos 0
   payment-before = instrument-each (λ a. a .payment 0 ≡ pos 0) refl (λ j h. entry-zero (pos 0) (plan .years) _)
 

@@ -35,7 +35,7 @@ pub record Held : Type 0 where
 abbrev pub flag : Bool → ℕ
 flag isHeld = pick isHeld 1 0
 
--- for how many years money already invested is held: all N, or none
+-- for how many years money already invested is held (document 02, item 1): all N, or none
 abbrev pub openings : Shape → ℕ
 openings h = pick (h .opened) (h .years) 0
 

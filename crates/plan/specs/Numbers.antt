@@ -8,7 +8,8 @@ use Rattle.plan.specs.declared.Plan.{Plan}
 use Rattle.plan.specs.Held.{HeldInstrument, HeldPattern, Held, held}
 
 -- N, n, q, m; the payment a_kj of instrument j in year k, the outflow o_k, the rollover share r_d, the rate i_l of pattern t,
--- the share p_j of the allocation, and what money already invested pays in year k, b_k (a_k0 in document 004, equation 2')
+-- the share p_j of the allocation, and what money already invested pays in year k, b_k (document 02, item 1; a_k0 in document
+-- 004, equation 2')
 pub record Numbers : Type 0 where
   pub years : ℕ
   pub instruments : ℕ

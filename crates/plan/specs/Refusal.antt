@@ -25,7 +25,7 @@ abbrev pub answer : {A : Type 0} → (refused : ℕ → A) → (number : ℕ) �
 answer refused zero accepted = accepted
 answer refused (suc n) accepted = refused (suc n)
 
--- the most that a payment, what money already invested pays or, without its sign, an outflow is
+-- the most that a payment is, or what money already invested pays in a year, or an outflow without its sign
 abbrev pub most : ℕ
 most = 20_000_000_000
 
@@ -44,7 +44,7 @@ module _ (P : Numbers) where
   unfoldable pub headOk : Bool
   headOk = countsOk (P .years) (P .instruments) (P .terms) (P .patterns)
 
-  -- 6: the payments of instrument 1 + j, those of all, the outflows, the money already invested
+  -- 6: the payments of instrument 1 + j, those of all, the outflows, the money already invested (document 02, item 1)
   unfoldable pub paymentsFit : (j : ℕ) → Bool
   paymentsFit j = all (P .years) (λ k. isBetween (pos 0) (pos most) (P .a (1 + k) (1 + j)))
 

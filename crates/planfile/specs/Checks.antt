@@ -1,4 +1,4 @@
--- Checks 1 to 5, on the records of any bytes s (document 01, "Checking order").
+-- Checks 1 to 5, on the records of any bytes s (document 01, "Checking order"; kind 7: document 02, item 1).
 use mathlib.Core.Bool.{Bool}
 use mathlib.Core.List.{List}
 use Prim.Native.Nat.{ℕ, _+_}

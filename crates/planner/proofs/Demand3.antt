@@ -142,11 +142,11 @@ module _ (plan : Plan) (t : ℕ) where
   form-near = record { near = λ e. rw (form-is e) (form-below (called plan t (form-called e) .plan-ok)); bound = λ e. bound-is (form-called e) }
 
   -- ---- an answer, and with it what it means
-  pub fund-answered : {s : Reckoned} → s ≡ fundAnswer P t → (s ≡ fundAnswer P t) × (FundNear P t s × (plan .opened ≡ false → Plain P))
-  fund-answered e = (e, (subst (FundNear P t) (sym e) fund-near, plain-plan plan))
+  pub fund-answered : {s : Reckoned} → s ≡ fundAnswer P t → (s ≡ fundAnswer P t) × FundNear P t s
+  fund-answered e = (e, subst (FundNear P t) (sym e) fund-near)
 
-  pub form-answered : {s : FormAnswer} → s ≡ formAnswer P t → (s ≡ formAnswer P t) × (FormNear P t s × (plan .opened ≡ false → Plain P))
-  form-answered e = (e, (subst (FormNear P t) (sym e) form-near, plain-plan plan))
+  pub form-answered : {s : FormAnswer} → s ≡ formAnswer P t → (s ≡ formAnswer P t) × FormNear P t s
+  form-answered e = (e, subst (FormNear P t) (sym e) form-near)
 
 -- ---- the verdict
 module _ (plan : Plan) where

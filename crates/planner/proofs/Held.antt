@@ -173,6 +173,13 @@ module _ (plan : Plan) (ok : Accepted (numbers plan)) where
     pub shared-is : sharedIn c rows ≡ sharedOf P
     shared-is = rw (e, f) shared-held
 
+  module _ {r : List ℤ} (e : r ≡ rolloverArray P) where
+    pub terms-ready : Terms (plan .terms) r
+    terms-ready = rw e terms
+
+    pub shares-are : sharesOf r ≡ P .r
+    shares-are = rw e rollover-held
+
   module _ (t : ℕ) {i : List ℤ} (e : i ≡ ratesArray P t) where
     pub rates-ready : Rates i
     rates-ready = rw e (rates t)

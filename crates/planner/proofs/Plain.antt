@@ -1,8 +1,8 @@
 -- A plan without money already invested is one of document 01.
 use mathlib.Core.Path.{_≡_, refl, ap, _∙_, fun-ext}
-use mathlib.Core.Bool.{false}
+use mathlib.Core.Bool.{Bool, true, false}
 use Prim.Native.Nat.{ℕ}
-use lib.IntN.{pos, negℤ, _-ℤ_, _*ℤ_}
+use lib.IntN.{ℤ, pos, negℤ, _-ℤ_, _*ℤ_}
 use Rattle.whole.specs.Range.{million}
 use Rattle.whole.specs.Floor.{floor}
 use Rattle.whole.specs.Test.{both}
@@ -12,18 +12,40 @@ use Rattle.whole.proofs.Test.{both-yes}
 use Rattle.reckoning.specs.Reckoning.{paid, flow}
 use Rattle.reckoning.specs.Exact.{x}
 use Rattle.plan.specs.Numbers.{Numbers, numbers}
-use Rattle.plan.specs.Refusal.{paymentsOk, outflowsOk, amountsOk}
+use Rattle.plan.specs.Refusal.{check, firstOf, headOk, paymentsOk, outflowsOk, amountsOk, rolloverOk, ratesOk, allocationOk, headRefusal, amountsRefusal, ratesRefusal, allocationRefusal, refusalOf}
 use Rattle.plan.specs.declared.Plan.{Plan}
 use Rattle.plan.proofs.Held.{opening-none}
 use Rattle.plan.proofs.Checks.{opening-passes}
 use Rattle.planner.specs.Calls.{sharedOf, flowOf, exactFlowOf}
-use Rattle.planner.specs.Plain.{Plain}
+use Rattle.planner.specs.Plain.{refusalPlain, sharedPlain, Plain}
+
+-- the checks in their parts are the checks one after the other
+checks-join : (a b c d e : Bool)
+    → firstOf (check a 3 0) (firstOf (check b 6 (check c 7 0)) (firstOf (check d 8 0) (check e 9 0))) ≡ check a 3 (check b 6 (check c 7 (check d 8 (check e 9 0))))
+checks-join false b c d e = refl
+checks-join true false c d e = refl
+checks-join true true false d e = refl
+checks-join true true true false e = refl
+checks-join true true true true e = refl
 
 -- where nothing is added to -o
 module _ (P : Numbers) (none : (k : ℕ) → P .b k ≡ pos 0) where
   same-amounts : amountsOk P ≡ both (paymentsOk P) (outflowsOk P)
   unfolding amountsOk
   same-amounts = rw (opening-passes P none) (ap (both (paymentsOk P)) (both-yes (outflowsOk P)))
+
+  same-refusal : refusalOf P ≡ refusalPlain P
+  unfolding refusalOf headRefusal amountsRefusal ratesRefusal allocationRefusal refusalPlain
+  same-refusal = checks-join (headOk P) (amountsOk P) (rolloverOk P) (ratesOk P) (allocationOk P)
+      ∙ ap (λ (six : Bool). check (headOk P) 3 (check six 6 (check (rolloverOk P) 7 (check (ratesOk P) 8 (check (allocationOk P) 9 0))))) same-amounts
+
+  same-constant : (k : ℕ) → sharedOf P .constantFlow k ≡ negℤ (P .o k)
+  same-constant k = rw (none k) (ring 1 (λ o. ! (pos 0) ⊖ o ≈ ⊝ o) refl (P .o k))
+
+  same-shared : sharedOf P ≡ sharedPlain P
+  same-shared =
+      ap (λ (c : ℕ → ℤ). record { years = P .years; instruments = P .instruments; a = P .a; constantFlow = c; r = P .r; p = P .p })
+      (fun-ext same-constant)
 
   same-flow : (k : ℕ) → flowOf (sharedOf P) k ≡ floor (paid (P .instruments) (P .a) (P .p) k) million -ℤ P .o k
   unfolding flowOf flow
@@ -33,11 +55,8 @@ module _ (P : Numbers) (none : (k : ℕ) → P .b k ≡ pos 0) where
   unfolding exactFlowOf x
   same-exact k = rw (none k) (ring 3 (λ f m o. f ⊕ m ⊗ (! (pos 0) ⊖ o) ≈ f ⊖ m ⊗ o) refl (paid (P .instruments) (P .a) (P .p) k) (pos million) (P .o k))
 
-  same-constant : (k : ℕ) → sharedOf P .constantFlow k ≡ negℤ (P .o k)
-  same-constant k = rw (none k) (ring 1 (λ o. ! (pos 0) ⊖ o ≈ ⊝ o) refl (P .o k))
-
   pub plain-numbers : Plain P
-  plain-numbers = record { amounts = same-amounts; flow = fun-ext same-flow; exact = fun-ext same-exact; constant = fun-ext same-constant }
+  plain-numbers = record { refusal = same-refusal; shared = same-shared; flow = fun-ext same-flow; exact = fun-ext same-exact }
 
 pub plain-plan : (plan : Plan) → plan .opened ≡ false → Plain (numbers plan)
 plain-plan plan e = plain-numbers (numbers plan) (opening-none plan e)

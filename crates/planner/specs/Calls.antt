@@ -40,7 +40,7 @@ pub record Shared : Type 0 where
   pub p : (j : ℕ) → ℕ
 
 -- of a plan. Document 004, equation 2': in year k the allocation's flow is what it pays, in whole amounts, and b_k - o_k; x_k is what it
--- pays, in millionths, and 1,000,000 times b_k - o_k. No allocation changes b - o, which is so the flow of Q.
+-- pays, in millionths, and 1,000,000 times b_k - o_k. No allocation changes b - o, so it is the flow of Q.
 abbrev pub sharedOf : Numbers → Shared
 sharedOf P = record {
   years = P .years;

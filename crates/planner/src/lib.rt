@@ -311,7 +311,6 @@ fn call_refusal(plan: Plan, t: usize) -> u8
 pub fn fund(plan: Plan, t: usize) -> Reckoned
     ensures is { λ s. ⌜ s ≡ fundAnswer (numbers plan) t ⌝ }
     ensures near { λ s. ⌜ FundNear (numbers plan) t s ⌝ }
-    ensures plain { λ _. ⌜ (plan .opened ≡ false → Plain (numbers plan)) ⌝ }
 {
     let no = call_refusal(plan, t);
     if no != 0 {
@@ -352,7 +351,6 @@ pub fn bound(plan: Plan, t: usize) -> BoundAnswer
 pub fn form(plan: Plan, t: usize) -> FormAnswer
     ensures is { λ s. ⌜ s ≡ formAnswer (numbers plan) t ⌝ }
     ensures near { λ s. ⌜ FormNear (numbers plan) t s ⌝ }
-    ensures plain { λ _. ⌜ (plan .opened ≡ false → Plain (numbers plan)) ⌝ }
 {
     let no = call_refusal(plan, t);
     if no != 0 {

@@ -17,7 +17,7 @@ pub record Inside (s : List ℕ) (start end : ℕ) : Type 0 where
 abbrev pub partOf : List ℕ → (start end : ℕ) → List ℕ
 partOf s start end = take (end - start) (drop start s)
 
--- the four numbers of a file's first record, in a shape with no kind that may be absent
+-- the four numbers of a file's first record, in a shape that holds none of the kinds that may be absent
 abbrev pub headIn : List ℕ → Shape
 headIn s = record { years = getD s 4 0; instruments = getD s 5 0; terms = getD s 6 0; patterns = getD s 7 0; opened = false }
 

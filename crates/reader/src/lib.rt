@@ -127,7 +127,7 @@ fn has_role(file: &[u8], t: usize, role: usize) -> bool
     }
 }
 
-// The four numbers of a file's first record, in a shape with no kind that may be absent: no record after the first is looked at.
+// The four numbers of a file's first record, in a shape that holds none of the kinds that may be absent: no other record is looked at.
 fn head_in(file: &[u8]) -> Shape
     requires { ⌜ 8 ≤ length (now file) ⌝ }
     ensures { λ r. ⌜ r ≡ headIn (now (file .entry)) ⌝ }

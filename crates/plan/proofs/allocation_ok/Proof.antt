@@ -13,6 +13,7 @@ use Rattle.plan.proofs.allocation_ok.Tie as tie
 sum-requires : tie.Need-sum-requires
 sum-requires c κs =
     let s = c .before .before in
+    -- the search enters 128 records at most: it begins at the field
     let l : length (s .args .plan .allocation) ≡ 16 = search (needs, s .good .0 .1 .1 .1 .1 .1 .1 .1 .1) in
     (omega (arith, s .pre .instruments-few), omega (arith, s .pre .instruments-few))
 

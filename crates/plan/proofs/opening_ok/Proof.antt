@@ -15,6 +15,7 @@ returns c = sym (opening-passes _ (opening-none _ (not-true _ (c .if1 .taken))))
 amounts-ok-requires : tie.Need-amounts-ok-requires
 amounts-ok-requires c κs =
     let s = c .before .before .before in
+    -- the search enters 128 records at most: it begins at the field
     let l : length (s .args .plan .opening) ≡ 30 = search (needs, s .good .0 .1 .1 .1 .1 .1 .1 .1 .1 .1) in
     omega (arith, s .pre .years-few)
 

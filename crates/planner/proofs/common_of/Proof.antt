@@ -1,9 +1,9 @@
 -- `planner::common_of` gathers what all patterns share.
 use mathlib.Core.Path.{_≡_, ap, _∙_}
-use Rattle.reckoning.specs.Arrays.{sharesOf, weightsOf}
+use Rattle.reckoning.specs.Arrays.{weightsOf}
 use Rattle.plan.specs.Numbers.{numbers}
 use Rattle.planner.specs.Arrays.{commonOf}
-use Rattle.planner.proofs.Held.{rollover-held, terms}
+use Rattle.planner.proofs.Held.{terms-ready, shares-are}
 use Rattle.planner.proofs.common_of.Statement.{statement}
 use Rattle.planner.proofs.common_of.Tie as tie
 
@@ -11,14 +11,14 @@ rollover-of-requires : tie.Need-rollover-of-requires
 rollover-of-requires c κs = c .pre .0
 
 weights-requires : tie.Need-weights-requires
-weights-requires c κs = rw (c .rollover-of .ensures) (terms (c .before .args .plan) (c .before .pre .0))
+weights-requires c κs = terms-ready _ (c .before .pre .0) (c .rollover-of .ensures)
 
 returns : tie.Need-returns
 unfolding commonOf
 returns c =
     let d = c .before in
     let s = d .before .before in
-    let weights : d .weights .result ≡ weightsOf (numbers (s .args .plan) .r) = d .weights .ensures ∙ ap weightsOf (ap sharesOf (d .before .rollover-of .ensures) ∙ rollover-held (s .args .plan) (s .pre .0)) in
+    let weights : d .weights .result ≡ weightsOf (numbers (s .args .plan) .r) = d .weights .ensures ∙ ap weightsOf (shares-are (s .args .plan) (s .pre .0) (d .before .rollover-of .ensures)) in
     rw (d .before .rollover-of .ensures, weights, s .pre .1)
 
 pub common-of-spec : {M : Type 1} → statement M

@@ -11,7 +11,7 @@ use Rattle.planner.proofs.form.Tie as tie
 
 returns : tie.Need-returns
 unfolding formAnswer
-returns c = form-answered (c .before .before .before .args .plan) _ (c .no-form .ensures ∙ out-refused noForm _ (c .before .before .call-refusal .ensures) (c .before .if1 .taken))
+returns c = form-answered _ _ (c .no-form .ensures ∙ out-refused noForm _ (c .before .before .call-refusal .ensures) (c .before .if1 .taken))
 
 -- the call is not refused
 module _ (c : tie.Else1) where
@@ -50,7 +50,7 @@ returns-2 c =
     let r = c .before .before .before in
     let e = gathered r .before .before in
     let o = ok e .plan-ok in
-    form-answered (e .before .before .args .plan) _ (out-accepted noForm (none e)
+    form-answered _ _ (out-accepted noForm (none e)
     (c .form-at .ensures ∙ ap₂ formReckoned (shared-is _ o (gathered r .common-of .ensures) (r .before .payments-of .ensures)) (rates-are _ o _ (r .rates-of .ensures))))
 
 pub form-spec : {M : Type 1} → statement M

@@ -12,7 +12,7 @@ use Rattle.planner.proofs.fund.Tie as tie
 
 returns : tie.Need-returns
 unfolding fundAnswer
-returns c = fund-answered (c .before .before .args .plan) _ (out-refused noFund _ (c .before .call-refusal .ensures) (c .if1 .taken))
+returns c = fund-answered _ _ (out-refused noFund _ (c .before .call-refusal .ensures) (c .if1 .taken))
 
 -- the call is not refused
 module _ (c : tie.Else1) where
@@ -62,7 +62,7 @@ unfolding fundAnswer
 returns-2 c =
     let p = c .before in
     let e = gathered p .before .before in
-    fund-answered (e .before .before .args .plan) _ (out-accepted noFund (none e)
+    fund-answered _ _ (out-accepted noFund (none e)
     (c .fund-at .ensures .0 ∙ flow-reckoned (prepared (lent p)) (rated p .before .flow-of .ensures) _
     ∙ ap₂ flowReckoned (shared-is _ (ok e .plan-ok) (gathered p .common-of .ensures) (lent p .before .payments-of .ensures)) (rates-are _ (ok e .plan-ok) _ (rated p .rates-of .ensures))))
 

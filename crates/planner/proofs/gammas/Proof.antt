@@ -1,13 +1,12 @@
 -- `planner::gammas` is the table of gammas in the pattern's rates.
-use mathlib.Core.Path.{_≡_, sym, ap, ap₂, _∙_, subst}
+use mathlib.Core.Path.{_≡_, sym, ap₂, _∙_}
 use Prim.Native.Nat.{ℕ}
 use borrow.Author.Needs.{needs}
 use lib.IntN.{ℤ}
-use Rattle.reckoning.specs.Arrays.{sharesOf, Terms, gammasReckoned}
+use Rattle.reckoning.specs.Arrays.{gammasReckoned}
 use Rattle.plan.specs.Numbers.{numbers}
-use Rattle.plan.specs.declared.Plan.{Plan}
 use Rattle.planner.specs.Calls.{noGammas, callRefusal, gammasAnswer}
-use Rattle.planner.proofs.Held.{years, rollover-held, terms, rates-ready, rates-are}
+use Rattle.planner.proofs.Held.{years, terms-ready, shares-are, rates-ready, rates-are}
 use Rattle.planner.proofs.Answers.{Called, called, out-refused, out-accepted}
 use Rattle.planner.proofs.gammas.Statement.{statement}
 use Rattle.planner.proofs.gammas.Tie as tie
@@ -27,19 +26,8 @@ module _ (c : tie.Else1) where
 rollover-of-requires : tie.Need-rollover-of-requires
 rollover-of-requires c κs = ok c .plan-ok
 
--- the rollover
-module _ (c : tie.After-rollover-of) where
-  abbrev plan : Plan
-  plan = c .before .before .before .args .plan
-
-  taken : Terms (plan .terms) (c .rollover-of .result)
-  taken = subst (Terms (plan .terms)) (sym (c .rollover-of .ensures)) (terms plan (ok (c .before) .plan-ok))
-
-  shares : sharesOf (c .rollover-of .result) ≡ numbers plan .r
-  shares = ap sharesOf (c .rollover-of .ensures) ∙ rollover-held plan (ok (c .before) .plan-ok)
-
 weights-requires : tie.Need-weights-requires
-weights-requires c κs = taken c
+weights-requires c κs = terms-ready _ (ok (c .before) .plan-ok) (c .rollover-of .ensures)
 
 rates-of-requires : tie.Need-rates-of-requires
 rates-of-requires c κs = let o = ok (c .before .before) in (o .plan-ok, (o .some, o .few))
@@ -48,7 +36,7 @@ gammas-requires : tie.Need-gammas-requires
 gammas-requires c κs =
     let r = c .before .before in
     let o = ok (r .before) .plan-ok in
-    (record { terms = taken r; weights = c .before .weights .ensures; rates = rates-ready _ o _ (c .rates-of .ensures) }, years _ o)
+    (record { terms = terms-ready _ o (r .rollover-of .ensures); weights = c .before .weights .ensures; rates = rates-ready _ o _ (c .rates-of .ensures) }, years _ o)
 
 returns-2 : tie.Need-returns-2
 unfolding gammasAnswer
@@ -56,8 +44,9 @@ returns-2 c =
     let i = c .before in
     let r = i .before .before in
     let e = r .before in
+    let plan = e .before .before .args .plan in
     out-accepted noGammas (none e)
-    (c .gammas .ensures ∙ ap₂ (λ (s : ℕ → ℕ) (i : ℕ → ℤ). gammasReckoned s i (plan r .years)) (shares r) (rates-are _ (ok e .plan-ok) _ (i .rates-of .ensures)))
+    (c .gammas .ensures ∙ ap₂ (λ (s : ℕ → ℕ) (i : ℕ → ℤ). gammasReckoned s i (plan .years)) (shares-are plan (ok e .plan-ok) (r .rollover-of .ensures)) (rates-are _ (ok e .plan-ok) _ (i .rates-of .ensures)))
 
 pub gammas-spec : {M : Type 1} → statement M
 gammas-spec =
