@@ -10,7 +10,7 @@ use lib.ListN.{getD}
 use lib.IntN.{ℤ, pos}
 use Rattle.whole.specs.Range.{million, Between, Within}
 use Rattle.whole.specs.Sum.{sumℕ}
-use Rattle.whole.specs.Test.{both, all, isFrom, isBetween, isWithin}
+use Rattle.whole.specs.Test.{all, isFrom, isBetween, isWithin}
 use Rattle.whole.specs.Table.{table}
 use Rattle.whole.proofs.Bridge.{whole}
 use Rattle.whole.proofs.Entry.{entry-each, entry-own}

@@ -1,5 +1,4 @@
--- Which records a file has, in which order: groups of records of one role (document 01, "Plan file"; kind 7: document 02,
--- item 1).
+-- Which records a file has, in which order: groups of records of one role (document 01, "Plan file"; kind 7: document 02, item 1).
 use mathlib.Core.List.{List, [], _∷_, _++_}
 use Prim.Native.Nat.{ℕ, _+_, _-_}
 use lib.Dec.{ltb, eqb}

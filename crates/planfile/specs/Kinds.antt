@@ -1,5 +1,4 @@
--- Each kind of record: its role and the length of its body (document 01, "Plan file"; kind 7: document 02, item 1), from kind 1
--- on.
+-- Each kind of record: its role and the length of its body (document 01, "Plan file"; kind 7: document 02, item 1), from kind 1 on.
 use mathlib.Core.List.{List, [], _∷_}
 use Prim.Native.Nat.{ℕ, _*_, _-_}
 use Rattle.whole.specs.Entry.{nth}

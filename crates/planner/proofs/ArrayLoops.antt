@@ -11,7 +11,6 @@ use mir.Val.{SFits}
 use Rattle.whole.specs.Range.{million, limit}
 use Rattle.whole.specs.Floor.{floor}
 use Rattle.whole.specs.Test.{pick}
-use Rattle.whole.proofs.Bridge.{whole, at, #, _⊖_, ⊝}
 use Rattle.whole.proofs.Range.{within-fits}
 use Rattle.whole.proofs.Sum.{Σℤ-from}
 use Rattle.whole.proofs.Table.{table-at}

@@ -21,9 +21,6 @@ within-add {b} {c} {x} {y} h k = omega (whole, at (⊝ (# (pos b))), at (⊝ (# 
 pub within-sub : {b c : ℕ} {x y : ℤ} → Within b x → Within c y → Within (b + c) (x -ℤ y)
 within-sub {b} {c} {x} {y} h k = omega (whole, at (⊝ (# (pos b))), at (⊝ (# (pos c))), at (⊝ (# (pos (b + c)))), at (# x ⊖ # y))
 
-pub within-neg : {b : ℕ} {x : ℤ} → Within b x → Within b (negℤ x)
-within-neg {b} {x} h = omega (whole, at (⊝ (# (pos b))), at (⊝ (# x)))
-
 pub within-pos : {b n : ℕ} → n ≤ b → Within b (pos n)
 within-pos {b} h = omega (whole, at (⊝ (# (pos b))))
 
