@@ -1,5 +1,5 @@
-/* The yearly reckoning of document 01, with the opening, in plain C: the same checks in the same order, the same window of q terms,
- * every flow of every pattern reckoned once. Nothing is copied that C need not copy; the plan is passed by pointer. */
+/* The yearly reckoning of document 01, with the opening and slopes, in plain C: the same checks in the same order, the same window of
+ * q terms, every flow of every pattern reckoned once. Nothing is copied that C need not copy; the plan is passed by pointer. */
 #include "verdict.h"
 
 #include <stdbool.h>
@@ -12,7 +12,9 @@
 struct plan {
     size_t years, instruments, terms, patterns;
     int64_t payments[16][30], outflows[30], opening[30]; /* the opening is 0 where the file has none */
-    uint32_t rollover[30], rates[64][30], allocation[16];
+    uint32_t rollover[30], allocation[16];
+    int64_t rates[64][30]; /* as listed, or as a slope means them */
+    uint8_t until[64];     /* the T of a slope; 1 where the rates are listed */
 };
 
 struct row {
@@ -42,7 +44,7 @@ static bool from(size_t low, size_t high, size_t x)
     return low <= x && x <= high;
 }
 
-/* The kind of record t; `opened` is 1 where there is an opening, else 0. */
+/* The kind of record t, 5 for a slope too; `opened` is 1 where there is an opening, else 0. */
 static size_t kind_of(size_t n, size_t m, size_t opened, size_t t)
 {
     size_t last = n + 1 + opened; /* of the records with amounts */
@@ -59,6 +61,20 @@ static void shares(uint32_t *out, const uint8_t *body, size_t n)
 {
     for (size_t k = 0; k < n; k++)
         out[k] = u32_at(body + 4 * k);
+}
+
+static void rates(int64_t *out, const uint8_t *body, size_t n)
+{
+    for (size_t k = 0; k < n; k++)
+        out[k] = u32_at(body + 4 * k);
+}
+
+/* The n rates that a slope means, from year 2 on. */
+static void slope(int64_t *out, const uint8_t *body, size_t n)
+{
+    int64_t start = (int32_t)u32_at(body), step = (int32_t)u32_at(body + 4), until = body[8];
+    for (int64_t k = 2; k < (int64_t)n + 2; k++)
+        out[k - 2] = start + ((k < until ? k : until) - 1) * step;
 }
 
 /* Checks 1 to 5, and the numbers. */
@@ -80,13 +96,14 @@ static uint8_t read_plan(const uint8_t *file, size_t length, struct plan *plan)
             return 4;
         if (t == n + 2 && u16_at(file + at + 2) == 7)
             opened = 1;
-        if (u16_at(file + at + 2) != kind_of(n, m, opened, t))
+        size_t kind = u16_at(file + at + 2);
+        if ((kind == 8 ? 5 : kind) != kind_of(n, m, opened, t))
             return 4;
         at += 4 + u16_at(file + at);
     }
     if (at != length)
         return 4;
-    const size_t sizes[] = {0, 4, 8 * N, 8 * N, 4 * q, 4 * (N - 1), 4 * n, 8 * N};
+    const size_t sizes[] = {0, 4, 8 * N, 8 * N, 4 * q, 4 * (N - 1), 4 * n, 8 * N, 9};
     at = 0;
     for (size_t t = 0; t < count + opened; t++) {
         if (u16_at(file + at) != sizes[u16_at(file + at + 2)])
@@ -109,8 +126,15 @@ static uint8_t read_plan(const uint8_t *file, size_t length, struct plan *plan)
     }
     shares(plan->rollover, body, q);
     body += 4 + 4 * q;
-    for (size_t t = 0; t < m; t++, body += 4 + 4 * (N - 1))
-        shares(plan->rates[t], body, N - 1);
+    for (size_t t = 0; t < m; t++) {
+        bool sloped = u16_at(body - 2) == 8;
+        if (sloped)
+            slope(plan->rates[t], body, N - 1);
+        else
+            rates(plan->rates[t], body, N - 1);
+        plan->until[t] = sloped ? body[8] : 1;
+        body += 4 + u16_at(body - 4);
+    }
     shares(plan->allocation, body, n);
     return 0;
 }
@@ -131,7 +155,7 @@ static uint64_t sum(const uint32_t *xs, size_t n)
     return s;
 }
 
-/* Checks 6 to 9. */
+/* Checks 6, 7, 13, 8 and 9. */
 static uint8_t check_plan(const struct plan *plan)
 {
     for (size_t j = 0; j < plan->instruments; j++)
@@ -142,9 +166,11 @@ static uint8_t check_plan(const struct plan *plan)
     if (sum(plan->rollover, plan->terms) != MILLION)
         return 7;
     for (size_t t = 0; t < plan->patterns; t++)
-        for (size_t k = 0; k + 1 < plan->years; k++)
-            if (plan->rates[t][k] > 200000)
-                return 8;
+        if (!from(1, 30, plan->until[t]))
+            return 13;
+    for (size_t t = 0; t < plan->patterns; t++)
+        if (!within(plan->rates[t], plan->years - 1, 0, 200000))
+            return 8;
     return sum(plan->allocation, plan->instruments) != MILLION ? 9 : 0;
 }
 
@@ -197,12 +223,9 @@ static int64_t bound(const int64_t *i, size_t n)
 
 /* What one pattern comes to; `net` is the opening less the outflows. */
 static uint8_t reckon(const struct plan *plan, const int64_t *flow, const int64_t *net, const int64_t *r, const int64_t *w,
-                      const uint32_t *rates, struct row *row)
+                      const int64_t *i, struct row *row)
 {
     size_t N = plan->years, n = plan->instruments, q = plan->terms;
-    int64_t i[30] = {0};
-    for (size_t k = 0; k + 1 < N; k++)
-        i[k] = rates[k];
     if (fund(flow, r, w, i, N, q, &row->fund))
         return 11;
     for (size_t j = 0; j < n; j++)

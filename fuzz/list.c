@@ -32,7 +32,7 @@ static void must(int holds, const char *what)
 /* The refusal that the text is; 0 if it is the listing of a plan. */
 static int refusal_of(const uint8_t *text, size_t length)
 {
-    static const int refusals[] = {1, 2, 3, 4, 5, 6, 7, 8, 9, 11};
+    static const int refusals[] = {1, 2, 3, 4, 5, 6, 7, 13, 8, 9, 11};
     static char copy[PLANNER_LISTING_BYTES + 1];
     memcpy(copy, text, length);
     copy[length] = 0;
@@ -254,9 +254,30 @@ static int record(const uint8_t *data, size_t size, size_t at, size_t *length)
     return size - at - 4 >= *length;
 }
 
-/* Amounts and rates go into their ranges, and shares are made to sum to 1,000,000 by the last one. */
-static void put_right(unsigned kind, uint8_t *body, size_t length)
+/* A slope's T goes into its range, and its start and step where every rate that it can mean is in its own, unless all that it means
+ * already are. */
+static void put_slope_right(uint8_t *body, int years)
 {
+    int32_t start, step;
+    memcpy(&start, body, 4);
+    memcpy(&step, body + 4, 4);
+    if (body[8] < 1 || body[8] > 30)
+        body[8] = body[8] % 30 + 1;
+    int last = years < body[8] ? years : body[8], first = last < 2 ? last : 2;
+    int64_t from = start + (int64_t)step * (first - 1), to = start + (int64_t)step * (last - 1);
+    if (years < 2 || (from >= 0 && from <= 200000 && to >= 0 && to <= 200000))
+        return;
+    start = abs(start % 200001);
+    step %= (step < 0 ? start : 200000 - start) / 29 + 1;
+    memcpy(body, &start, 4);
+    memcpy(body + 4, &step, 4);
+}
+
+/* Amounts and rates go into their ranges, and shares are made to sum to 1,000,000 by the last one. */
+static void put_right(unsigned kind, uint8_t *body, size_t length, int years)
+{
+    if (kind == 8 && length == 9)
+        put_slope_right(body, years);
     for (size_t k = 0; (kind == 2 || kind == 3 || kind == 7) && k + 8 <= length; k += 8) {
         int64_t amount;
         memcpy(&amount, body + k, 8);
@@ -286,6 +307,7 @@ size_t LLVMFuzzerCustomMutator(uint8_t *data, size_t size, size_t most, unsigned
     if (seed % 4 == 0 || count == 0)
         return LLVMFuzzerMutate(data, size, most);
     size_t chosen = seed / 4 % count;
+    int years = size > 4 ? data[4] : 0;
     for (at = 0; record(data, size, at, &length); at += 4 + length) {
         uint8_t *body = data + at + 4;
         if (chosen-- == 0 && length > 0) {
@@ -294,7 +316,7 @@ size_t LLVMFuzzerCustomMutator(uint8_t *data, size_t size, size_t most, unsigned
             memcpy(body, copy, length);
         }
         if (seed % 4 != 1)
-            put_right(data[at + 2], body, length);
+            put_right(data[at + 2], body, length, years);
     }
     return size;
 }

@@ -9,7 +9,8 @@
  * A plan file goes in as bytes (any bytes: what is no plan file is refused), and the answer comes back in lent buffers. Each call
  * answers a refusal: PLANNER_ACCEPTED, or the number of the first check that fails. On a refusal every number of the answer is 0;
  * entries past the plan's own years, instruments, terms and patterns are always 0, and so are those of the opening (what money already
- * invested pays) where the plan holds none. Amounts are whole numbers in the unit of the file, shares and rates are millionths. */
+ * invested pays) where the plan holds none, the rates of a pattern that is a slope, and the start, step and T of one that is not. Amounts
+ * are whole numbers in the unit of the file, shares and rates are millionths. */
 #ifndef PLANNER_H
 #define PLANNER_H
 
@@ -42,7 +43,7 @@ extern "C" {
  * handlers use comes on top. It is not proved: tests/stack reads it off the compiled code, over every path, and measures it. */
 #define PLANNER_STACK_BYTES 98304
 
-/* What a call answers, by number: the checks in their order. */
+/* What a call answers, by number: the checks in their order, but for 13, which stands right before 8. */
 enum planner_refusal {
     PLANNER_ACCEPTED = 0,
     PLANNER_FILE_TOO_LONG = 1,   /* the file is longer than PLANNER_FILE_BYTES */
@@ -52,11 +53,12 @@ enum planner_refusal {
     PLANNER_LENGTH = 5,          /* a record's length is not what its kind and the head require */
     PLANNER_AMOUNT = 6,          /* a payment, an outflow or an amount of the opening is outside its range */
     PLANNER_ROLLOVER = 7,        /* the rollover shares do not sum to 1,000,000 */
-    PLANNER_RATE = 8,            /* a rate is below 0 or above 200,000 */
+    PLANNER_RATE = 8,            /* a rate that is listed or that a slope means is below 0 or above 200,000 */
     PLANNER_ALLOCATION = 9,      /* the allocation does not sum to 1,000,000 */
     PLANNER_PATTERN = 10,        /* the pattern number is outside 1 to m */
     PLANNER_OUT_OF_LIMIT = 11,   /* a cell or a fund is outside +-1,000,000,000,000 */
-    PLANNER_BUFFER_TOO_SHORT = 12 /* the buffer is shorter than the file that goes into it */
+    PLANNER_BUFFER_TOO_SHORT = 12, /* the buffer is shorter than the file that goes into it */
+    PLANNER_SLOPE = 13           /* the T of a slope is outside 1 to 30 */
 };
 
 /* What is said of a pattern, and of a plan. */
@@ -67,12 +69,16 @@ enum planner_word {
 };
 
 /* A plan held as values goes over this border in four arrays, one for each width of number. The arrays have these places; a field that a
- * plan gains takes places after the last, so that no call's parameters and no place here ever change, and only the sizes grow. A program
- * that makes a plan begins with zeros: a field that it does not know is then one that the plan does not hold.
+ * plan gains takes places after the last, so that no call's parameters and no place here ever change, and only the sizes grow: a program
+ * is built again with the header of the library that it is linked with. A program that makes a plan begins with zeros: a field that it
+ * does not know is then one that the plan does not hold.
  *
- * counts: N, n, q and m, then `opened`: 0 where the plan holds no opening, any other number where it does. planner_read answers 0
- * or 1. */
-#define PLANNER_COUNTS 5
+ * counts: N, n, q and m, then `opened`: 0 where the plan holds no opening, any other number where it does. Then `sloped`, for each
+ * pattern: 0 where it lists its rates, any other number where it is a slope; then `until`, for each pattern the T of its slope. Of
+ * `opened` and `sloped` planner_read answers 0 or 1. */
+#define PLANNER_AT_SLOPED 5
+#define PLANNER_AT_UNTIL 69
+#define PLANNER_COUNTS 133
 /* amounts: the payments, a row of PLANNER_YEARS for each instrument, then the outflows, then the opening. What instrument j + 1 pays in
  * year k + 1 per 1,000,000,000 put in stands at PLANNER_AT_PAYMENTS + j * PLANNER_YEARS + k. The opening is what money already invested
  * pays in each year; what stands at its places while `opened` is 0 plays no part. */
@@ -84,9 +90,14 @@ enum planner_word {
 #define PLANNER_AT_ROLLOVER 0
 #define PLANNER_AT_ALLOCATION 30
 #define PLANNER_SHARES 46
-/* rates: a row of PLANNER_YEARS for each pattern. The rate i_(k+2) of pattern t + 1 stands at PLANNER_AT_RATES + t * PLANNER_YEARS + k. */
+/* rates: a row of PLANNER_YEARS for each pattern, then for each pattern the start i_0 of its slope, then for each the step d. The rate
+ * i_(k+2) of pattern t + 1 stands at PLANNER_AT_RATES + t * PLANNER_YEARS + k. A slope means i_k = i_0 + (min(k, T) - 1) * d for each year
+ * k from 2 on. Where a pattern is a slope its row of rates plays no part, and where it lists its rates its start, step and T play none;
+ * planner_read answers zeros there. */
 #define PLANNER_AT_RATES 0
-#define PLANNER_RATES 1920
+#define PLANNER_AT_START 1920
+#define PLANNER_AT_STEP 1984
+#define PLANNER_RATES 2048
 
 /* The same as a struct: each array by its name, and by the names of its places. */
 struct planner_plan {
@@ -94,6 +105,7 @@ struct planner_plan {
         size_t counts[PLANNER_COUNTS];
         PLANNER_EXTENSION struct {
             size_t years, instruments, terms, patterns, opened;
+            size_t sloped[PLANNER_PATTERNS], until[PLANNER_PATTERNS];
         };
     };
     PLANNER_EXTENSION union {
@@ -115,6 +127,7 @@ struct planner_plan {
         int32_t all_rates[PLANNER_RATES];
         PLANNER_EXTENSION struct {
             int32_t rates[PLANNER_PATTERNS][PLANNER_YEARS];
+            int32_t start[PLANNER_PATTERNS], step[PLANNER_PATTERNS];
         };
     };
 };
@@ -123,18 +136,19 @@ struct planner_plan {
  * that is refused is listed as `refused` and its number. */
 size_t planner_list(const uint8_t *file, size_t file_length, uint8_t out[PLANNER_AT_LEAST(PLANNER_LISTING_BYTES)]);
 
-/* The plan that a file holds. Refusals 1 to 9. */
+/* The plan that a file holds. Refusals 1 to 9 and 13. */
 uint8_t planner_read(const uint8_t *file, size_t file_length,
                      size_t counts[PLANNER_AT_LEAST(PLANNER_COUNTS)], int64_t amounts[PLANNER_AT_LEAST(PLANNER_AMOUNTS)],
                      uint32_t shares[PLANNER_AT_LEAST(PLANNER_SHARES)], int32_t rates[PLANNER_AT_LEAST(PLANNER_RATES)]);
 
-/* The file of a plan, into the first bytes of `buffer`, and its length. What the arrays hold past the plan's own numbers, or for an
- * opening that it does not hold, plays no part. Refusals 3, 6 to 9 and 12; on a refusal the buffer is untouched and the length is 0. */
+/* The file of a plan, into the first bytes of `buffer`, and its length. A slope is written as one. What the arrays hold past the plan's
+ * own numbers, or for what it does not hold, plays no part. Refusals 3, 6 to 9, 13 (also for a T that is too large for a byte) and 12;
+ * on a refusal the buffer is untouched and the length is 0. */
 uint8_t planner_write(const size_t counts[PLANNER_AT_LEAST(PLANNER_COUNTS)], const int64_t amounts[PLANNER_AT_LEAST(PLANNER_AMOUNTS)],
                       const uint32_t shares[PLANNER_AT_LEAST(PLANNER_SHARES)], const int32_t rates[PLANNER_AT_LEAST(PLANNER_RATES)],
                       uint8_t *buffer, size_t buffer_length, size_t *length);
 
-/* The calls on one pattern, counted from 1. Refusals 1 to 11; the bound's call reckons no cell and has no 11. */
+/* The calls on one pattern, counted from 1. Refusals 1 to 11 and 13; the bound's call reckons no cell and has no 11. */
 
 /* The reckoned fund: never above the exact fund, and below it by less than the bound. */
 uint8_t planner_fund(const uint8_t *file, size_t file_length, size_t pattern, int64_t *fund);
@@ -151,7 +165,8 @@ uint8_t planner_form(const uint8_t *file, size_t file_length, size_t pattern,
 uint8_t planner_gammas(const uint8_t *file, size_t file_length, size_t pattern,
                        int64_t gammas[PLANNER_AT_LEAST(PLANNER_YEARS * PLANNER_YEARS)]);
 
-/* The verdict: the word of each pattern, the short ones as bits (bit t - 1 for pattern t), the plan's word. Refusals 1 to 9, 11. */
+/* The verdict: the word of each pattern, the short ones as bits (bit t - 1 for pattern t), the plan's word. Refusals 1 to 9, 11
+ * and 13. */
 uint8_t planner_verdict(const uint8_t *file, size_t file_length,
                         uint8_t words[PLANNER_AT_LEAST(PLANNER_PATTERNS)], uint64_t *shorts, uint8_t *word);
 

@@ -35,13 +35,17 @@ static struct request request;
     ((offsetof(struct planner_plan, member) - offsetof(struct planner_plan, array)) / sizeof ((struct planner_plan *)0)->array[0])
 #define ENDS(member, array) \
     (AT(member, array) + sizeof ((struct planner_plan *)0)->member / sizeof ((struct planner_plan *)0)->array[0])
-_Static_assert(AT(patterns, counts) == 3 && AT(opened, counts) == 4 && ENDS(opened, counts) == PLANNER_COUNTS, "counts");
+_Static_assert(AT(patterns, counts) == 3 && AT(opened, counts) == 4 && ENDS(opened, counts) == PLANNER_AT_SLOPED, "counts");
+_Static_assert(AT(sloped, counts) == PLANNER_AT_SLOPED && ENDS(sloped, counts) == PLANNER_AT_UNTIL, "counts");
+_Static_assert(AT(until, counts) == PLANNER_AT_UNTIL && ENDS(until, counts) == PLANNER_COUNTS, "counts");
 _Static_assert(AT(payments, amounts) == PLANNER_AT_PAYMENTS && AT(outflows, amounts) == PLANNER_AT_OUTFLOWS, "amounts");
 _Static_assert(ENDS(payments, amounts) == PLANNER_AT_OUTFLOWS && ENDS(outflows, amounts) == PLANNER_AT_OPENING, "amounts");
 _Static_assert(AT(opening, amounts) == PLANNER_AT_OPENING && ENDS(opening, amounts) == PLANNER_AMOUNTS, "amounts");
 _Static_assert(AT(rollover, shares) == PLANNER_AT_ROLLOVER && AT(allocation, shares) == PLANNER_AT_ALLOCATION, "shares");
 _Static_assert(ENDS(rollover, shares) == PLANNER_AT_ALLOCATION && ENDS(allocation, shares) == PLANNER_SHARES, "shares");
-_Static_assert(AT(rates, all_rates) == PLANNER_AT_RATES && ENDS(rates, all_rates) == PLANNER_RATES, "rates");
+_Static_assert(AT(rates, all_rates) == PLANNER_AT_RATES && ENDS(rates, all_rates) == PLANNER_AT_START, "rates");
+_Static_assert(AT(start, all_rates) == PLANNER_AT_START && ENDS(start, all_rates) == PLANNER_AT_STEP, "rates");
+_Static_assert(AT(step, all_rates) == PLANNER_AT_STEP && ENDS(step, all_rates) == PLANNER_RATES, "rates");
 
 static void need(int holds, const char *what)
 {

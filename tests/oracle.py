@@ -1,8 +1,10 @@
-"""Document 01, with the money already invested of document 02, in unbounded whole numbers: what a plan file is read as, what each
-call answers, what the program prints.
+"""Document 01, with the money already invested and the rising and falling rates of document 02, in unbounded whole numbers: what a
+plan file is read as, what each call answers, what the program prints.
 
 Written from the papers alone. It is slow and plain on purpose: every sum is the paper's sum, and nothing is cut short.
 """
+import collections
+import copy
 import struct
 
 MILLION = 10 ** 6
@@ -18,21 +20,32 @@ class Refused(Exception):
         self.number = number
 
 
+# Rates that rise or fall: i_0, the step d, and the T from which they are level.
+Slope = collections.namedtuple("Slope", "start step until")
+
+
+def meant(pattern, N):
+    """i_2 to i_N of a pattern, which lists them or is a slope."""
+    if isinstance(pattern, Slope):
+        return [pattern.start + (min(k, pattern.until) - 1) * pattern.step for k in range(2, N + 1)]
+    return pattern
+
+
 class Plan:
     """N, n, q, m, and a_kj, o_k, b_k, r_j, i_k of pattern t, p_j by the paper's indices, from 1; i_k from 2. b_k is what the money
     already invested pays: a_k0 of equation 2' in document 004."""
 
-    def __init__(self, payments, outflows, rollover, rates, allocation, opening=None):
+    def __init__(self, payments, outflows, rollover, patterns, allocation, opening=None):
         self.payments = payments      # a list for each instrument
         self.outflows = outflows
         self.opening = opening        # begins with b_1; None where the record is not held
         self.rollover = rollover
-        self.rates = rates            # a list for each pattern, which begins with i_2
+        self.patterns = patterns      # each a list that begins with i_2, or a slope
         self.allocation = allocation
         self.N = len(outflows)
         self.n = len(payments)
         self.q = len(rollover)
-        self.m = len(rates)
+        self.m = len(patterns)
         self.left = [MILLION - sum(rollover[:d]) for d in range(self.q + 1)]
 
     def a(self, k, j):
@@ -47,17 +60,19 @@ class Plan:
     def r(self, j):
         return self.rollover[j - 1] if j <= self.q else 0
 
-    def i(self, t, k):
-        return self.rates[t - 1][k - 2]
+    def i(self, t):
+        """The rates of pattern t, by their years 2 to N."""
+        return dict(enumerate(meant(self.patterns[t - 1], self.N), 2))
 
     def p(self, j):
         return self.allocation[j - 1]
 
 
 class Values:
-    """A plan held as values: N, n, q, m and whether it holds an opening, any numbers, and arrays of the largest sizes."""
+    """A plan held as values: N, n, q, m and whether it holds an opening and which patterns are slopes, any numbers, and arrays of the
+    largest sizes."""
 
-    def __init__(self, head, payments, outflows, rollover, rates, allocation, opened, opening):
+    def __init__(self, head, payments, outflows, rollover, rates, allocation, opened, opening, sloped, slopes):
         self.head = head
         self.opened = opened          # 0 where it holds none
         self.payments = payments      # 16 rows of 30
@@ -65,6 +80,8 @@ class Values:
         self.opening = opening        # 30
         self.rollover = rollover      # 30
         self.rates = rates            # 64 rows of 30
+        self.sloped = sloped          # 64, each 0 where the pattern lists its rates
+        self.slopes = slopes          # 64
         self.allocation = allocation  # 16
 
 
@@ -93,8 +110,8 @@ def numbers(body, width, signed=False):
     return [int.from_bytes(body[k:k + width], "little", signed=signed) for k in range(0, len(body), width)]
 
 
-def read(data):
-    """The plan of a file; checks 1 to 9, each over all records before the next begins."""
+def numbers_of(data):
+    """The plan that a file holds, whatever its numbers; checks 1 to 5, each over all records before the next begins."""
     if len(data) > 16384:
         raise Refused(1)
     found = records(data)
@@ -104,20 +121,29 @@ def read(data):
     head(N, n, q, m)
     kinds = [kind for kind, _ in found]
     opened = 7 in kinds
-    if kinds != [1] + [2] * n + [3] + [7] * opened + [4] + [5] * m + [6]:
+    if [5 if kind == 8 else kind for kind in kinds] != [1] + [2] * n + [3] + [7] * opened + [4] + [5] * m + [6]:
         raise Refused(4)
-    size = {1: 4, 2: 8 * N, 3: 8 * N, 4: 4 * q, 5: 4 * (N - 1), 6: 4 * n, 7: 8 * N}
+    size = {1: 4, 2: 8 * N, 3: 8 * N, 4: 4 * q, 5: 4 * (N - 1), 6: 4 * n, 7: 8 * N, 8: 9}
     if any(len(body) != size[kind] for kind, body in found):
         raise Refused(5)
     bodies = {kind: [body for other, body in found if other == kind] for kind in size}
-    plan = Plan(
+    return Plan(
         [numbers(body, 8, True) for body in bodies[2]],
         numbers(bodies[3][0], 8, True),
         numbers(bodies[4][0], 4),
-        [numbers(body, 4) for body in bodies[5]],
+        [slope(body) if kind == 8 else numbers(body, 4) for kind, body in found if kind in (5, 8)],
         numbers(bodies[6][0], 4),
         numbers(bodies[7][0], 8, True) if opened else None,
     )
+
+
+def slope(body):
+    return Slope(*numbers(body[:8], 4, True), body[8])
+
+
+def read(data):
+    """The plan of a file; checks 1 to 9, and 13 right before 8."""
+    plan = numbers_of(data)
     check(plan)
     return plan
 
@@ -129,7 +155,7 @@ def head(N, n, q, m):
 
 
 def check(plan):
-    """Checks 6 to 9."""
+    """Checks 6, 7, 13, 8 and 9."""
     most = 20 * 10 ** 9
     if any(not 0 <= x <= most for row in plan.payments for x in row) or any(not -most <= x <= most for x in plan.outflows):
         raise Refused(6)
@@ -137,7 +163,9 @@ def check(plan):
         raise Refused(6)
     if sum(plan.rollover) != MILLION:
         raise Refused(7)
-    if any(rate > 200000 for row in plan.rates for rate in row):
+    if any(isinstance(one, Slope) and not 1 <= one.until <= 30 for one in plan.patterns):
+        raise Refused(13)
+    if any(not 0 <= rate <= 200000 for one in plan.patterns for rate in meant(one, plan.N)):
         raise Refused(8)
     if sum(plan.allocation) != MILLION:
         raise Refused(9)
@@ -156,24 +184,29 @@ def write(plan):
     if plan.opening is not None:
         out += packed(7, "q", plan.opening)
     out += packed(4, "I", plan.rollover)
-    for row in plan.rates:
-        out += packed(5, "I", row)
+    for one in plan.patterns:
+        out += record(8, struct.pack("<iiB", *one)) if isinstance(one, Slope) else packed(5, "I", one)
     return out + packed(6, "I", plan.allocation)
 
 
-def held(values):
-    """The plan of values; checks 3 and 6 to 9. What stands past its N, n, q and m plays no part, nor what stands for an opening that
-    it does not hold."""
+def numbers_held(values):
+    """The plan that values hold, whatever its numbers; check 3. What stands past its N, n, q and m plays no part, nor what stands for an
+    opening that it does not hold, for the rates of a slope, or for the slope of a pattern that lists its rates."""
     head(*values.head)
     N, n, q, m = values.head
-    plan = Plan(
+    return Plan(
         [row[:N] for row in values.payments[:n]],
         values.outflows[:N],
         values.rollover[:q],
-        [row[:N - 1] for row in values.rates[:m]],
+        [values.slopes[t] if values.sloped[t] else values.rates[t][:N - 1] for t in range(m)],
         values.allocation[:n],
         values.opening[:N] if values.opened else None,
     )
+
+
+def held(values):
+    """The plan of values; checks 3, 6, 7, 13, 8 and 9."""
+    plan = numbers_held(values)
     check(plan)
     return plan
 
@@ -216,10 +249,10 @@ def years(plan):
 
 def cells(plan, t, flow):
     """alpha_2 to alpha_(N+1)."""
-    alpha = {}
+    alpha, i = {}, plan.i(t)
     for k in range(2, plan.N + 2):
         alpha[k] = flow[k - 1] + sum(
-            share(alpha[l], plan.r(k - l)) + share(share(alpha[l], w(plan, k - l - 1)), plan.i(t, l)) for l in range(2, k))
+            share(alpha[l], plan.r(k - l)) + share(share(alpha[l], w(plan, k - l - 1)), i[l]) for l in range(2, k))
     return alpha
 
 
@@ -237,10 +270,10 @@ def fund(plan, t, flow):
 def exact(plan, t):
     """H: the exact fund is H / 10^(12 N)."""
     x = {k: sum(plan.a(k, j) * plan.p(j) for j in range(1, plan.n + 1)) + MILLION * (plan.b(k) - plan.o(k)) for k in years(plan)}
-    E = {}
+    E, i = {}, plan.i(t)
     for k in range(2, plan.N + 2):
         E[k] = x[k - 1] * 10 ** (12 * (k - 2)) + sum(
-            E[l] * (MILLION * plan.r(k - l) + plan.i(t, l) * w(plan, k - l - 1)) * 10 ** (12 * (k - l - 1)) for l in range(2, k))
+            E[l] * (MILLION * plan.r(k - l) + i[l] * w(plan, k - l - 1)) * 10 ** (12 * (k - l - 1)) for l in range(2, k))
     return sum(E[k] * w(plan, plan.N + 1 - k) * 10 ** (12 * (plan.N + 1 - k)) for k in range(2, plan.N + 2))
 
 
@@ -248,7 +281,7 @@ def exact(plan, t):
 
 
 def bound(plan, t):
-    h = max(plan.rates[t - 1], default=0)
+    h = max(plan.i(t).values(), default=0)
     G = 1
     for k in range(3, plan.N + 2):
         G = G + -(-G * h // MILLION) + 3 * k - 5
@@ -307,7 +340,7 @@ def listing(data):
     return printed(rows, plan_word)
 
 
-# ---- what is refused through the opening
+# ---- what is refused through the opening or through slopes
 
 
 def refusal(call, *given):
@@ -326,6 +359,44 @@ def through_opening(data):
         return 0
     left = b"".join(record(kind, body) for kind, body in records(data) if kind != 7)
     return 0 if refusal(read, left) in (4, 5, 6) else number
+
+
+def slope_reasons(plan):
+    """What check 13 finds in the slopes of a plan, or else check 8."""
+    slopes = [one for one in plan.patterns if isinstance(one, Slope)]
+    wrong = [one for one in slopes if not 1 <= one.until <= 30]
+    if wrong:
+        before = plan.patterns[:plan.patterns.index(wrong[0])]
+        yield from {"13, too low" if one.until < 1 else "13, too high" for one in wrong}
+        yield from {"13, an 8 before it" for one in before for rate in meant(one, plan.N) if not 0 <= rate <= 200000}
+    else:
+        rates = [rate for one in slopes for rate in meant(one, plan.N)]
+        yield from {"8, too low" for rate in rates if rate < 0} | {"8, too high" for rate in rates if rate > 200000}
+
+
+THROUGH_SLOPES = ["4", "5", "13, too low", "13, too high", "13, an 8 before it", "8, too low", "8, too high"]
+
+
+def through_slopes(data):
+    """Why a file is refused 4, 5, 13 or 8 for its records of kind 8 alone, of THROUGH_SLOPES: it is not refused so without one of them
+    (4), or with the slope 0 0 1 in the place of each (5, 13, 8). Else nothing."""
+    number = refusal(read, data)
+    if number not in (4, 5, 13, 8):
+        return []
+    found = records(data)
+    others = [[(kind, struct.pack("<iiB", 0, 0, 1) if kind == 8 else body) for kind, body in found]]
+    if number == 4:
+        others = [found[:at] + found[at + 1:] for at, (kind, _) in enumerate(found) if kind == 8]
+    if all(refusal(read, b"".join(record(*one) for one in other)) == number for other in others):
+        return []
+    return [str(number)] if number in (4, 5) else list(slope_reasons(numbers_of(data)))
+
+
+def spelled_out(plan):
+    """The plan with the rates of its slopes as lists."""
+    other = copy.copy(plan)
+    other.patterns = [meant(one, plan.N) for one in plan.patterns]
+    return other
 
 
 # ---- demand 3

@@ -1,13 +1,17 @@
 """Plans from a seed, and damaged files.
 
 Sizes go over all of N, n, q and m; notes are plain or odd; half of the plans hold an opening; outflows are matched to the flow,
-so that funds lie within a few units of zero and loans roll into loans to the last year; rates are level, rising or wild; amounts
-lie at the ends of their ranges, and cells and funds at 10^12 and one past it, on both sides of zero.
+so that funds lie within a few units of zero and loans roll into loans to the last year; rates are level, rising or wild, and are
+listed, meant by slopes, or some the one and some the other; amounts, and the rates that a slope means, lie at the ends of their ranges,
+its start and step at those of 32 bits, and cells and funds at 10^12 and one past it, on both sides of zero.
 """
+import struct
+
 import oracle
 
 MOST = 20 * 10 ** 9
 TOP = 200000
+LEAST_32, MOST_32 = -2 ** 31, 2 ** 31 - 1
 
 
 def size(rng, top):
@@ -56,6 +60,76 @@ def pattern(rng, N):
     return [rng.choice([0, TOP, rng.randint(0, TOP)]) for _ in range(N - 1)]
 
 
+def any_32(rng):
+    return rng.choice([LEAST_32, MOST_32, 0, 1, -1, TOP + 1, rng.randint(LEAST_32, MOST_32)])
+
+
+def slope(rng, N, past=0):
+    """A slope that rises, falls or is level, often with a rate of year 2 or N just at an end of the range; with `past`, for N above 1,
+    one that is so much past an end. i_0 may be outside the range, and start and step are as far out as they can be where one rate is
+    all that the slope means, or none."""
+    until = rng.choice([1, 2, N, min(30, N + 1), 30, rng.randint(1, 30)])
+    steps = min(N, until) - 2  # from i_2 to i_N
+    if N == 1:
+        return oracle.Slope(any_32(rng), any_32(rng), until)
+    if steps <= 0:
+        rate = rng.choice([-past, TOP + past] if past else [0, TOP, rng.randint(0, TOP)])
+        if until == 1:
+            return oracle.Slope(rate, any_32(rng), until)
+        low, high = max(LEAST_32, rate - MOST_32), min(MOST_32, rate - LEAST_32)
+        start = rng.choice([low, high, rate, rng.randint(low, high)])
+        return oracle.Slope(start, rate - start, until)
+    step = rng.choice([0, 1, TOP // steps, rng.randint(0, TOP // steps), rng.randint(0, TOP // 10 // steps)])
+    room = TOP - steps * step
+    low = room + past if past else rng.choice([0, room, rng.randint(0, room)])
+    first, step = rng.choice([(low, step), (low + steps * step, -step)])
+    if rng.random() < 0.5:
+        first, step = TOP - first, -step
+    return oracle.Slope(first - step, step, until)
+
+
+def wrapped(rng, N):
+    """A slope with a rate outside the range, in years 2 and N in the range if they are reckoned in 32 bits."""
+    until = rng.randint(2, 30)
+    steps = min(N, until) - 2
+    if steps < 3:
+        return oracle.Slope(LEAST_32 + rng.randint(0, TOP // 2), LEAST_32 + rng.randint(0, TOP // 2), 2)
+    first, step = rng.randint(50, TOP - 50), rng.choice([1, -1]) * (2 ** 32 // steps)
+    return oracle.Slope(first - step, step, until)
+
+
+def steep(rng, N):
+    """A slope with a rate outside the range, where N is above 1: by one, or by more, up to what 32 bits can mean."""
+    kind = rng.random()
+    if kind < 0.5:
+        return slope(rng, N, 1)
+    if kind < 0.7:
+        return slope(rng, N, rng.randint(1, 10 ** 9))
+    if kind < 0.85:
+        return wrapped(rng, N)
+    return oracle.Slope(rng.choice([LEAST_32, MOST_32]), rng.choice([LEAST_32, MOST_32]), rng.randint(1, 30))
+
+
+def as_slope(rng, rates):
+    """A slope that means these rates; the list if they are not level and do not rise or fall evenly."""
+    if rates[1:] == rates[:-1]:
+        return rng.choice([oracle.Slope(rates[0], any_32(rng), 1), oracle.Slope(rates[0], 0, rng.randint(1, 30))])
+    step = rates[1] - rates[0]
+    one = oracle.Slope(rates[0] - step, step, rng.randint(len(rates) + 1, 30))
+    return one if oracle.meant(one, len(rates) + 1) == rates else rates
+
+
+def patterns(rng, N, m):
+    """Lists, slopes, or both; and then now and then a slope beside the list of its rates."""
+    odds = rng.choice([0, 0.5, 1])
+    found = [slope(rng, N) if rng.random() < odds else pattern(rng, N) for _ in range(m)]
+    if m > 1 and odds == 0.5 and rng.random() < 0.5:
+        one, other = rng.sample(range(m), 2)
+        found[one] = slope(rng, N)
+        found[other] = oracle.meant(found[one], N)
+    return found
+
+
 def matched(rng, plan):
     """The last outflow moved such that the fund of one pattern is within a few units of zero, if it stays in its range."""
     t = rng.randint(1, plan.m)
@@ -79,8 +153,7 @@ def plain(rng):
         outflows = [rng.randint(-top, top) for _ in range(N)]
     else:
         outflows = [top] + [0] * (N - 1)
-    plan = oracle.Plan([note(rng, N) for _ in range(n)], outflows, parts(rng, q), [pattern(rng, N) for _ in range(m)], parts(rng, n),
-                       opening(rng, N))
+    plan = oracle.Plan([note(rng, N) for _ in range(n)], outflows, parts(rng, q), patterns(rng, N, m), parts(rng, n), opening(rng, N))
     return matched(rng, plan) if rng.random() < 0.7 else plan
 
 
@@ -90,20 +163,21 @@ def largest(rng):
     outflows = [rng.randint(-10 ** 8, 10 ** 8) for _ in range(N)]
     payments = [[rng.randint(0, 10 ** 8) for _ in range(N)] for _ in range(n)]
     older = rng.choice([None, [rng.randint(0, 10 ** 8) for _ in range(N)]])
-    return matched(rng, oracle.Plan(payments, outflows, parts(rng, q), [pattern(rng, N) for _ in range(m)], parts(rng, n), older))
+    return matched(rng, oracle.Plan(payments, outflows, parts(rng, q), patterns(rng, N, m), parts(rng, n), older))
 
 
 def at_the_limit(rng):
     """In one of the patterns one flow, that of the allocation, an instrument or Q, comes to 10^12 or -10^12, or past it: its fund
     and its last cell (all is rolled over every year), its fund and no cell (nothing is before the horizon), or its last cell but one
-    and not its fund. In half of the plans an opening has its part in the flow."""
+    and not its fund. In half of the plans an opening has its part in the flow, and in half rates are meant by slopes."""
     N, m = rng.randint(24, 30), rng.randint(1, 3)
     whose = rng.choice(["allocation", "instrument", "Q"])
     where = rng.choice(["cell and fund", "fund"] + ["cell"] * (whose != "instrument"))
     sign = 1 if whose == "instrument" else rng.choice([1, -1])
     rates = [[0] * (N - 1) for _ in range(m)]
     t = rng.randint(1, m)
-    rates[t - 1] = [rng.randint(120000, TOP)] * (N - 1)
+    middle, step = rng.randint(150000, 170000), rng.choice([0, rng.randint(-1000, 1000)])
+    rates[t - 1] = [middle + step * k for k in range(N - 1)]
     plan = oracle.Plan([[0] * N, [0] * N], [0] * N, [0] * 29 * (where == "fund") + [oracle.MILLION], rates, [0, oracle.MILLION])
     end = N
     if where == "cell":
@@ -131,11 +205,19 @@ def at_the_limit(rng):
         # all that comes in, or any amounts; the outflows rise by as much, and no flow changes
         plan.opening = rng.choice([[max(0, -o) for o in plan.outflows], [rng.randint(0, 10 ** 10) for _ in range(N)]])
         plan.outflows = [o + b for o, b in zip(plan.outflows, plan.opening)]
+    if rng.random() < 0.5:
+        plan.patterns = [as_slope(rng, row) for row in plan.patterns]
     return plan
 
 
+def to_fail(rng):
+    """Checks on numbers that are to fail: one or two of them; 8, and 8 with 13, more often than others."""
+    checks = [6, 7, 13, 8, 9]
+    return rng.choice([rng.sample(checks, 1), rng.sample(checks, 1), rng.sample(checks, 2), [8], [8, 13]])
+
+
 def spoil(rng, plan, check):
-    """One number of the plan is changed such that check 6, 7, 8 or 9 fails."""
+    """One number of the plan, or one slope, is changed such that check 6, 7, 13, 8 or 9 fails. A plan without a slope gets one for 13."""
 
     def shares(of):
         j = rng.randrange(len(of))
@@ -155,23 +237,32 @@ def spoil(rng, plan, check):
         row[rng.randrange(plan.N)] = rng.choice([low - 1, MOST + 1, 2 ** 63 - 1, -2 ** 63])
     elif check == 7:
         shares(plan.rollover)
+    elif check == 13:
+        t = rng.choice([plan.m - 1, rng.randrange(plan.m)])
+        one = plan.patterns[t] if isinstance(plan.patterns[t], oracle.Slope) else slope(rng, plan.N)
+        plan.patterns[t] = one._replace(until=rng.choice([0, 31, 255, rng.randint(31, 255)]))
     elif check == 8 and plan.N > 1:
-        rng.choice(plan.rates)[rng.randrange(plan.N - 1)] = rng.choice([TOP + 1, 2 ** 31 - 1, 2 ** 31, 2 ** 32 - 1])
+        t = rng.choice([0, rng.randrange(plan.m)])
+        if isinstance(plan.patterns[t], oracle.Slope):
+            plan.patterns[t] = steep(rng, plan.N)
+        else:
+            plan.patterns[t][rng.randrange(plan.N - 1)] = rng.choice([TOP + 1, 2 ** 31 - 1, 2 ** 31, 2 ** 32 - 1])
     else:
         shares(plan.allocation)
 
 
 def outside(rng):
-    """A plan with a number or two past their ranges: refused 6 to 9."""
+    """A plan with a number or two past their ranges: refused 6 to 9 or 13."""
     plan = plain(rng)
-    for check in rng.sample([6, 7, 8, 9], rng.choice([1, 1, 2])):
+    for check in to_fail(rng):
         spoil(rng, plan, check)
     return plan
 
 
 def values(rng, plan):
-    """The plan held as values, with anything past its N, n, q and m, and for an opening that it does not hold; now and then one
-    number of the head is outside its range."""
+    """The plan held as values, with anything past its N, n, q and m, for an opening that it does not hold, for the rates of its slopes
+    and for the slopes of its lists; now and then one number of the head is outside its range. A T outside its range becomes, as often as
+    not, one that no byte holds."""
     kind = rng.randint(1, 4)
 
     def rest(amount):
@@ -184,6 +275,16 @@ def values(rng, plan):
             return rng.choice([low, high, -1, MOST + 1] if amount else [high, 2 ** 31, TOP + 1, oracle.MILLION])
         return rng.randint(low, high)
 
+    def count():
+        return 0 if kind == 1 else rng.choice([0, 1, 31, 2 ** 8 + 5, 2 ** 32 + 5, 2 ** 64 - 1, rng.randint(0, 2 ** 64 - 1)])
+
+    def held_slope(one):
+        if not isinstance(one, oracle.Slope):
+            return oracle.Slope(0, 0, 0) if kind == 1 else oracle.Slope(any_32(rng), any_32(rng), rng.choice([count(), 30]))
+        if 1 <= one.until <= 30 or rng.random() < 0.5:
+            return one
+        return one._replace(until=rng.choice([2 ** 8 + 5, 2 ** 32 + 5, 2 ** 32, 2 ** 64 - 1, 2 ** 63 + 30]))
+
     def filled(row, count, amount=False):
         return row + [rest(amount) for _ in range(count - len(row))]
 
@@ -195,14 +296,29 @@ def values(rng, plan):
         at = rng.randrange(4)
         top = [30, 16, 30, 64][at]
         head[at] = rng.choice([0, top + 1, 2 ** 8 + head[at], 2 ** 32 + head[at], 2 ** 40, 2 ** 64 - 1])
-    opened = 0 if plan.opening is None else rng.choice([1, 2, 2 ** 32, 2 ** 64 - 1])
+
+    def flag(holds):
+        return rng.choice([1, 2, 2 ** 8, 2 ** 32, 2 ** 64 - 1]) if holds else 0
+
+    slopes = [isinstance(one, oracle.Slope) for one in plan.patterns]
+    lists = [[] if sloped else one for one, sloped in zip(plan.patterns, slopes)]
+    past = 64 - plan.m
     return oracle.Values(head, rows(plan.payments, 16, True), filled(plan.outflows, 30, True), filled(plan.rollover, 30),
-                         rows(plan.rates, 64), filled(plan.allocation, 16), opened, filled(plan.opening or [], 30, True))
+                         rows(lists, 64), filled(plan.allocation, 16), flag(plan.opening is not None),
+                         filled(plan.opening or [], 30, True), [flag(sloped) for sloped in slopes] + [count() for _ in range(past)],
+                         [held_slope(one) for one in plan.patterns + [None] * past])
 
 
 def place(found, kind):
     """Where the first record of a kind stands; the end if there is none."""
     return next((at for at, (other, _) in enumerate(found) if other == kind), len(found))
+
+
+def misplaced_slope(rng, found, N):
+    """One slope more, or in the place of another record: where none may stand, unless it takes the place of a pattern."""
+    at = rng.choice([place(found, kind) for kind in (1, 2, 3, 7, 4, 5, 6)] + [len(found)])
+    one = 8, struct.pack("<iiB", *slope(rng, N))
+    return found[:at] + [one] + found[at + rng.choice([0, 1]):]
 
 
 def misplaced(rng, found, N):
@@ -219,10 +335,13 @@ def misplaced(rng, found, N):
     return found
 
 
+RECORDS = [6, 7, 8, 8, 8, 9, 10, 11, 12]  # the kinds of damage to records; those of another length come more often
+
+
 def damaged(rng, data):
-    """A file cut, padded, with a byte changed, or with records swapped, dropped, doubled, of another length or of another kind, or
-    with an opening at a wrong place."""
-    kind = rng.randint(1, 10)
+    """A file cut, padded, with a byte changed, or with records swapped, dropped, doubled, of another length or of another kind, with
+    a byte of a slope changed, or with an opening or a slope at a wrong place."""
+    kind = rng.choice([1, 2, 3, 4, 5, *RECORDS])
     if kind == 1:
         return data[:rng.randrange(len(data))]
     if kind == 2:
@@ -235,10 +354,11 @@ def damaged(rng, data):
     if kind == 5:
         return data[:4] + bytes([rng.choice([0, 1, 17, 31, 65, 255]) if k == 0 else x for k, x in enumerate(data[4:8])]) + data[8:]
     found = oracle.records(data)
-    for kind in [kind] + [rng.randint(6, 10) for _ in range(rng.choice([0, 1]))]:
+    for kind in [kind] + rng.choice([[], rng.sample(RECORDS, 1)]):
         i, j = rng.randrange(len(found)), rng.randrange(len(found))
-        if place(found, 7) < len(found) and rng.random() < 0.5:
-            i = place(found, 7)
+        # mostly an opening or a slope, if there is one
+        wanted = rng.choice([7, 7, 8, 8, None])
+        i = rng.choice([at for at, (one, _) in enumerate(found) if one == wanted] or [i])
         kind_i, body = found[i]
         if kind == 6:
             found[i], found[j] = found[j], found[i]
@@ -248,17 +368,23 @@ def damaged(rng, data):
             found[i] = (kind_i, rng.choice([body[:-1], body + b"\0", body[:-4], body + bytes(4), body + bytes(8)]))
         elif kind == 9:
             found = misplaced(rng, found, data[4])
+        elif kind == 10:
+            found = misplaced_slope(rng, found, data[4])
+        elif kind == 11 and kind_i == 8 and body:
+            at = rng.choice([len(body) - 1, rng.randrange(len(body))])
+            found[i] = (8, body[:at] + bytes([rng.randrange(256)]) + body[at + 1:])
         else:
-            found[i] = (rng.choice([8, 0, 3, 263]) if kind_i == 7 else 7, body)
+            others = {7: [8, 0, 3, 263], 8: [5, 5, 7, 0, 264], 5: [8, 8, 7]}
+            found[i] = (rng.choice(others.get(kind_i, [7, 8])), body)
     return b"".join(oracle.record(kind, body) for kind, body in found)
 
 
 def file(rng):
     """Any of these."""
     kind = rng.random()
-    if kind < 0.55:
+    if kind < 0.50:
         return oracle.write(plain(rng))
-    if kind < 0.60:
+    if kind < 0.55:
         return oracle.write(at_the_limit(rng))
     if kind < 0.70:
         return oracle.write(outside(rng))

@@ -50,6 +50,11 @@ module _ {A : Type 0} where
         is = rw (e, take-paste l n ys m (omega arith) (omega arith), whole, f .is);
       }
 
+  -- the same of values that are known by another name
+  pub front-next : {size n m : ℕ} {l l' xs zs ys : List A} → zs ≡ ys → Front size l n xs → n + m ≤ size → length l ≡ size → length zs ≡ m → l' ≡ paste l n zs m
+      → Front size l' (n + m) (xs ++ ys)
+  front-next {zs = zs} same f fits long few e = rw (← same) (front-more zs f fits long few e)
+
   -- they fill it up
   pub front-all : {size : ℕ} {l xs : List A} → 0 < size → Front size l size xs → l ≡ xs
   front-all {size} {l} some f =

@@ -1,16 +1,17 @@
 -- A plan in four plain arrays, one for each width of number, as programs in C lend them. The parts of a plan stand in them one after the
 -- other, and so do the rows of a table.
 use mathlib.Core.List.{List, [], _∷_, _++_}
-use Prim.Native.Nat.{ℕ, zero, suc, _*_}
+use Prim.Native.Nat.{ℕ, zero, suc, _+_, _*_}
 use lib.Dec.{ltb}
-use lib.IntN.{ℤ}
+use lib.IntN.{ℤ, pos}
 use lib.ListN.{getD, take, drop}
+use Rattle.whole.specs.Test.{pick}
 use Rattle.whole.specs.Table.{table}
 use Rattle.reckoning.specs.declared.Row.{Row}
 use Rattle.plan.specs.declared.Instrument.{Instrument}
 use Rattle.plan.specs.declared.Pattern.{Pattern}
 use Rattle.plan.specs.declared.Plan.{Plan}
-use Rattle.plan.specs.Held.{flag, instrumentAt, patternAt, noInstrument, noPattern}
+use Rattle.plan.specs.Held.{flag, instrumentAt, patternAt, missingPattern, noInstrument, noPattern}
 
 module _ {A : Type 0} where
   -- n rows, one after the other
@@ -23,7 +24,8 @@ module _ {A : Type 0} where
   valuesAt xs at n = take n (drop at xs)
 
 -- ---- the arrays of a plan
--- where the outflows and the money already invested begin among the amounts, and the allocation among the shares
+-- where the outflows and the money already invested begin among the amounts, the allocation among the shares, which patterns are slopes and
+-- their T among the counts, and the starts and the steps of slopes among the rates
 abbrev pub outflowsFrom : ℕ
 outflowsFrom = 480
 
@@ -33,9 +35,40 @@ openingFrom = 510
 abbrev pub allocationFrom : ℕ
 allocationFrom = 30
 
--- N, n, q and m, and whether money already invested is held
-abbrev pub allCounts : Plan → List ℕ
-allCounts plan = plan .years ∷ plan .instruments ∷ plan .terms ∷ plan .patterns ∷ flag (plan .opened) ∷ []
+abbrev pub slopedFrom : ℕ
+slopedFrom = 5
+
+abbrev pub untilFrom : ℕ
+untilFrom = 69
+
+abbrev pub startFrom : ℕ
+startFrom = 1_920
+
+abbrev pub stepFrom : ℕ
+stepFrom = 1_984
+
+-- something of each of 64 patterns
+unfoldable pub ofEach : {A : Type 0} → (f : Pattern → A) → (none : A) → List Pattern → List A
+ofEach f none rows = table 64 64 (λ t. f (getD rows t missingPattern)) none
+
+abbrev pub slopedOf : List Pattern → List ℕ
+slopedOf = ofEach (λ row. flag (row .sloped)) 0
+
+abbrev pub untilsOf : List Pattern → List ℕ
+untilsOf = ofEach (λ row. row .until) 0
+
+abbrev pub startsOf : List Pattern → List ℤ
+startsOf = ofEach (λ row. row .start) (pos 0)
+
+abbrev pub stepsOf : List Pattern → List ℤ
+stepsOf = ofEach (λ row. row .step) (pos 0)
+
+-- N, n, q and m, whether money already invested is held, which patterns are slopes, and T of each
+abbrev pub headCounts : Plan → List ℕ
+headCounts plan = plan .years ∷ plan .instruments ∷ plan .terms ∷ plan .patterns ∷ flag (plan .opened) ∷ []
+
+unfoldable pub allCounts : Plan → List ℕ
+allCounts plan = (headCounts plan ++ slopedOf (plan .pattern)) ++ untilsOf (plan .pattern)
 
 -- the payments of the 16 instruments, then the outflows, then the money already invested
 unfoldable pub allAmounts : Plan → List ℤ
@@ -45,9 +78,9 @@ allAmounts plan = (joined 16 (λ j. instrumentAt plan j .payments) ++ plan .outf
 abbrev pub allShares : Plan → List ℕ
 allShares plan = plan .rollover ++ plan .allocation
 
--- the rates of the 64 patterns
+-- the rates of the 64 patterns, then the start of each, then the step of each
 unfoldable pub allRates : Plan → List ℤ
-allRates plan = joined 64 (λ t. patternAt plan t .rates)
+allRates plan = (joined 64 (λ t. patternAt plan t .rates) ++ startsOf (plan .pattern)) ++ stepsOf (plan .pattern)
 
 -- the 30 rows of a table of gammas
 unfoldable pub allGammas : List Row → List ℤ
@@ -58,10 +91,24 @@ allGammas rows = joined 30 (λ j. getD rows j (record { values = [] }) .values)
 unfoldable pub instrumentsOf : (amounts : List ℤ) → List Instrument
 instrumentsOf amounts = table 16 16 (λ j. record { payments = valuesAt amounts (30 * j) 30 }) noInstrument
 
-unfoldable pub patternsOf : (rates : List ℤ) → List Pattern
-patternsOf rates = table 64 64 (λ t. record { rates = valuesAt rates (30 * t) 30 }) noPattern
+-- a number that no byte has is taken as 0, which is no T either
+abbrev pub byteOf : ℕ → ℕ
+byteOf n = pick (ltb n 256) n 0
 
--- the whole plan; any number but 0 says that money already invested is held
+abbrev pub patternOf : (counts : List ℕ) (rates : List ℤ) (t : ℕ) → Pattern
+patternOf counts rates t = record {
+  rates = valuesAt rates (30 * t) 30;
+  sloped = ltb 0 (getD counts (slopedFrom + t) 0);
+  start = getD rates (startFrom + t) (pos 0);
+  step = getD rates (stepFrom + t) (pos 0);
+  until = byteOf (getD counts (untilFrom + t) 0);
+  spare = 0;
+}
+
+unfoldable pub patternsOf : (counts : List ℕ) (rates : List ℤ) → List Pattern
+patternsOf counts rates = table 64 64 (patternOf counts rates) noPattern
+
+-- the whole plan; any number but 0 says that money already invested is held, or that a pattern is a slope
 unfoldable pub planOfArrays : (counts : List ℕ) → (amounts : List ℤ) → (shares : List ℕ) → (rates : List ℤ) → Plan
 planOfArrays counts amounts shares rates = record {
   years = getD counts 0 0;
@@ -71,7 +118,7 @@ planOfArrays counts amounts shares rates = record {
   instrument = instrumentsOf amounts;
   outflows = valuesAt amounts outflowsFrom 30;
   rollover = valuesAt shares 0 30;
-  pattern = patternsOf rates;
+  pattern = patternsOf counts rates;
   allocation = valuesAt shares allocationFrom 16;
   opened = ltb 0 (getD counts 4 0);
   opening = valuesAt amounts openingFrom 30;

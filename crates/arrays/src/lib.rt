@@ -5,10 +5,10 @@ use plan::Pattern;
 use plan::Plan;
 use reckoning::Row;
 ghost use mathlib.Core.Path.{_≡_};
-ghost use Prim.Native.Nat.{_+_, _≤_};
+ghost use Prim.Native.Nat.{_+_, _≤_, _<_};
 ghost use lib.ListN.{length, drop};
 ghost use lib.Seq.{paste};
-ghost use Rattle.arrays.specs.Arrays.{valuesAt, allocationFrom, allCounts, allAmounts, allShares, allRates, allGammas, instrumentsOf, patternsOf, planOfArrays};
+ghost use Rattle.arrays.specs.Arrays.{valuesAt, allocationFrom, slopedOf, untilsOf, startsOf, stepsOf, allCounts, allAmounts, allShares, allRates, allGammas, instrumentsOf, byteOf, patternOf, patternsOf, planOfArrays};
 
 // Where the outflows begin among the amounts.
 const OUTFLOWS: usize = 480;
@@ -18,6 +18,16 @@ const OPENING: usize = 510;
 
 // Where the allocation begins among the shares.
 const ALLOCATION: usize = 30;
+
+// Where it begins among the counts which patterns are slopes, and where T of each.
+const SLOPED: usize = 5;
+
+const UNTIL: usize = 69;
+
+// Where the starts and the steps of slopes begin among the rates.
+const START: usize = 1_920;
+
+const STEP: usize = 1_984;
 
 // ---- from one array to another
 
@@ -54,20 +64,87 @@ fn copy_i32(from: &[i32], start: usize, to: &mut [i32], at: usize, n: usize)
     }
 }
 
+// The same for counts.
+fn copy_usize(from: &[usize], start: usize, to: &mut [usize], at: usize, n: usize)
+    requires { ⌜ start + n ≤ length (now from) ⌝ }
+    requires { ⌜ at + n ≤ length (now to) ⌝ }
+    ensures { λ _. ⌜ now (to .exit) ≡ paste (now (to .entry)) at (drop start (now (from .entry))) n ⌝ }
+{
+    for k in 0..n {
+        to[at + k] = from[start + k];
+    }
+}
+
 // ---- a plan into arrays
 
-// N, n, q and m, and 1 where money already invested is held, else 0.
-pub fn put_counts(plan: Plan, out: &mut [usize; 5])
+// 1 for each pattern that is a slope, else 0.
+fn sloped_of(rows: [Pattern; 64]) -> [usize; 64]
+    ensures { λ r. ⌜ r ≡ slopedOf rows ⌝ }
+{
+    let mut v = [0usize; 64];
+    for t in 0..64 {
+        let row = rows[t];
+        v[t] = plan::flag(row.sloped);
+    }
+    v
+}
+
+// T of each pattern.
+fn untils_of(rows: [Pattern; 64]) -> [usize; 64]
+    ensures { λ r. ⌜ r ≡ untilsOf rows ⌝ }
+{
+    let mut v = [0usize; 64];
+    for t in 0..64 {
+        let row = rows[t];
+        v[t] = row.until as usize;
+    }
+    v
+}
+
+// The start of each pattern.
+fn starts_of(rows: [Pattern; 64]) -> [i32; 64]
+    ensures { λ r. ⌜ r ≡ startsOf rows ⌝ }
+{
+    let mut v = [0i32; 64];
+    for t in 0..64 {
+        let row = rows[t];
+        let start = row.start;
+        v[t] = start;
+    }
+    v
+}
+
+// The step of each pattern.
+fn steps_of(rows: [Pattern; 64]) -> [i32; 64]
+    ensures { λ r. ⌜ r ≡ stepsOf rows ⌝ }
+{
+    let mut v = [0i32; 64];
+    for t in 0..64 {
+        let row = rows[t];
+        let step = row.step;
+        v[t] = step;
+    }
+    v
+}
+
+// N, n, q and m, and 1 where money already invested is held, else 0; then which patterns are slopes, then T of each.
+pub fn put_counts(plan: Plan, out: &mut [usize; 133])
     ensures { λ _. ⌜ now (out .exit) ≡ allCounts plan ⌝ }
 {
     let opened = plan::flag(plan.opened);
-    *out = [
+    let head = [
         plan.years,
         plan.instruments,
         plan.terms,
         plan.patterns,
         opened,
     ];
+    copy_usize(&head, 0, out, 0, 5);
+    let rows = plan.pattern;
+    let sloped = sloped_of(rows);
+    copy_usize(&sloped, 0, out, SLOPED, 64);
+    let untils = untils_of(rows);
+    copy_usize(&untils, 0, out, UNTIL, 64);
 }
 
 // The payments of an instrument.
@@ -117,8 +194,8 @@ pub fn put_shares(plan: Plan, out: &mut [u32; 46])
     copy_u32(&allocation, 0, out, ALLOCATION, 16);
 }
 
-// The rates of the 64 patterns.
-pub fn put_rates(plan: Plan, out: &mut [i32; 1920])
+// The rates of the 64 patterns, then the start of each, then the step of each.
+pub fn put_rates(plan: Plan, out: &mut [i32; 2048])
     ensures { λ _. ⌜ now (out .exit) ≡ allRates plan ⌝ }
 {
     let rows = plan.pattern;
@@ -127,6 +204,10 @@ pub fn put_rates(plan: Plan, out: &mut [i32; 1920])
         let rates = rates_in(row);
         copy_i32(&rates, 0, out, 30 * t, 30);
     }
+    let starts = starts_of(rows);
+    copy_i32(&starts, 0, out, START, 64);
+    let steps = steps_of(rows);
+    copy_i32(&steps, 0, out, STEP, 64);
 }
 
 // The 30 rows of a table of gammas.
@@ -186,15 +267,45 @@ fn rollover_of(shares: &[u32; 46]) -> [u32; 30]
     part
 }
 
-// The patterns: thirty rates each, one pattern after the other.
-fn patterns_of(rates: &[i32; 1920]) -> [Pattern; 64]
-    ensures { λ r. ⌜ r ≡ patternsOf (now (rates .entry)) ⌝ }
+// A byte; 0 where the number is none.
+fn byte_of(n: usize) -> u8
+    ensures { λ r. ⌜ r ≡ byteOf n ⌝ }
 {
-    let none = Pattern { rates: [0i32; 30] };
+    if n < 256 { n as u8 } else { 0 }
+}
+
+// The pattern at t: thirty rates, and the four numbers that say whether it is a slope, and which.
+fn pattern_at(counts: &[usize; 133], rates: &[i32; 2048], t: usize) -> Pattern
+    requires { ⌜ t < 64 ⌝ }
+    ensures { λ r. ⌜ r ≡ patternOf (now (counts .entry)) (now (rates .entry)) t ⌝ }
+{
+    let row = rates_at(rates, 30 * t);
+    let until = byte_of(counts[UNTIL + t]);
+    Pattern {
+        rates: row,
+        sloped: 0 < counts[SLOPED + t],
+        start: rates[START + t],
+        step: rates[STEP + t],
+        until,
+        spare: 0,
+    }
+}
+
+// The patterns, one after the other.
+fn patterns_of(counts: &[usize; 133], rates: &[i32; 2048]) -> [Pattern; 64]
+    ensures { λ r. ⌜ r ≡ patternsOf (now (counts .entry)) (now (rates .entry)) ⌝ }
+{
+    let none = Pattern {
+        rates: [0i32; 30],
+        sloped: false,
+        start: 0,
+        step: 0,
+        until: 0,
+        spare: 0,
+    };
     let mut rows = [none; 64];
     for t in 0..64 {
-        let row = rates_at(rates, 30 * t);
-        rows[t] = Pattern { rates: row };
+        rows[t] = pattern_at(counts, rates, t);
     }
     rows
 }
@@ -208,19 +319,20 @@ fn allocation_of(shares: &[u32; 46]) -> [u32; 16]
     part
 }
 
-// The plan that such arrays hold, whatever they hold. Any number but 0 says that money already invested is held.
+// The plan that such arrays hold, whatever they hold. Any number but 0 says that money already invested is held, or that a pattern is a
+// slope.
 pub fn plan_of(
-    counts: &[usize; 5],
+    counts: &[usize; 133],
     amounts: &[i64; 540],
     shares: &[u32; 46],
-    rates: &[i32; 1920],
+    rates: &[i32; 2048],
 ) -> Plan
     ensures { λ r. ⌜ r ≡ planOfArrays (now (counts .entry)) (now (amounts .entry)) (now (shares .entry)) (now (rates .entry)) ⌝ }
 {
     let instrument = instruments_of(amounts);
     let outflows = amounts_at(amounts, OUTFLOWS);
     let rollover = rollover_of(shares);
-    let pattern = patterns_of(rates);
+    let pattern = patterns_of(counts, rates);
     let allocation = allocation_of(shares);
     let opening = amounts_at(amounts, OPENING);
     Plan {

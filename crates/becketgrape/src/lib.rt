@@ -34,10 +34,10 @@ pub extern "C" fn planner_list(file: &[u8], out: &mut [u8; 32768]) -> usize
 #[no_mangle]
 pub extern "C" fn planner_read(
     file: &[u8],
-    counts: &mut [usize; 5],
+    counts: &mut [usize; 133],
     amounts: &mut [i64; 540],
     shares: &mut [u32; 46],
-    rates: &mut [i32; 1920],
+    rates: &mut [i32; 2048],
 ) -> u8
     ensures { λ r. ⌜ r ≡ readAnswer (now (file .entry)) .refusal ⌝ }
     ensures { λ _. ⌜ now (counts .exit) ≡ allCounts (readAnswer (now (file .entry)) .plan) ⌝ }
@@ -59,10 +59,10 @@ pub extern "C" fn planner_read(
 // The file of a plan that arrays hold, in the first bytes of `buffer`, and its length; on a refusal the buffer is untouched.
 #[no_mangle]
 pub extern "C" fn planner_write(
-    counts: &[usize; 5],
+    counts: &[usize; 133],
     amounts: &[i64; 540],
     shares: &[u32; 46],
-    rates: &[i32; 1920],
+    rates: &[i32; 2048],
     buffer: &mut [u8],
     length: &mut usize,
 ) -> u8

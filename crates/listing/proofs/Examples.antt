@@ -17,7 +17,7 @@ use Rattle.reckoning.specs.Bound.{h, ceiling, G, B}
 use Rattle.reckoning.specs.Arrays.{alphasFit, fundFits}
 use Rattle.plan.specs.Held.{instrumentsHeld, outflowsHeld, rolloverHeld, patternsHeld, allocationHeld, openingHeld}
 use Rattle.plan.specs.Numbers.{numbers}
-use Rattle.plan.specs.Refusal.{answer, headOk, paymentsFit, paymentsOk, outflowsOk, openingOk, amountsOk, rolloverOk, ratesFit, ratesOk, allocationOk, headRefusal, amountsRefusal, ratesRefusal, allocationRefusal, refusalOf}
+use Rattle.plan.specs.Refusal.{answer, headOk, paymentsFit, paymentsOk, outflowsOk, openingOk, amountsOk, rolloverOk, untilsOk, ratesFit, ratesOk, allocationOk, headRefusal, amountsRefusal, ratesRefusal, allocationRefusal, refusalOf}
 use Rattle.plan.specs.declared.Plan.{Plan}
 use Rattle.plan.proofs.Checks.{answer-accepted}
 use Rattle.planner.specs.Calls.{flowOf, fundAt, boundAt, coefficientAt, constantAt, flowFits, coefficientsFit, constantFits, coefficientsAt, boundOf}
@@ -91,7 +91,7 @@ text-L = refl
 pub judged-L : judgementOf (numbers planL) ≡ judgementL
 unfolding judgementOf verdictAnswer verdictRefusal rowsOf rowOf rowAt rowFits fundOf patternWord wordAt shortBits planWord wordOf bitsOf
     flowOf fundAt boundAt coefficientAt constantAt flowFits coefficientsFit constantFits coefficientsAt boundOf
-    refusalOf headRefusal amountsRefusal ratesRefusal allocationRefusal headOk paymentsOk paymentsFit outflowsOk openingOk amountsOk rolloverOk ratesOk ratesFit allocationOk
+    refusalOf headRefusal amountsRefusal ratesRefusal allocationRefusal headOk paymentsOk paymentsFit outflowsOk openingOk amountsOk rolloverOk untilsOk ratesOk ratesFit allocationOk
     instrumentsHeld outflowsHeld rolloverHeld patternsHeld allocationHeld openingHeld
     fundFits alphasFit fund alpha alpha-step sent flow paid w h ceiling G B floor shareOf sum sumℕ largest course history nth cut entry table all isBetween
     planL nearL judgementL rowL

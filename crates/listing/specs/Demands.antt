@@ -3,17 +3,27 @@ use mathlib.Core.Path.{_≡_}
 use mathlib.Core.Bool.{false}
 use mathlib.Core.List.{List}
 use Prim.Native.Nat.{ℕ}
-use Rattle.planner.specs.Plain.{Plain}
+use Rattle.plan.specs.Held.{PlainHeld}
+use Rattle.planner.specs.Plain.{PlainFlow, Plain}
+use Rattle.planner.specs.Alike.{meant, Alike}
 use Rattle.planfile.specs.Checks.{shapeIn}
+use Rattle.planfile.specs.Records.{heldIn}
 use Rattle.planfile.specs.Read.{numbersIn, readAnswer}
 use Rattle.planfile.specs.Demand2.{OneFile}
-use Rattle.planfile.specs.Plain.{PlainFile}
+use Rattle.planfile.specs.Plain.{PlainFile, PlainKinds}
 use Rattle.listing.specs.Demand3.{OfFile}
+use Rattle.listing.specs.Text.{textOf}
 
 -- demand 2: an accepted file is the one file of the plan that is listed; demand 3: what the answers say of Tilley's exact fund
 pub record Demands (s : List ℕ) : Type 0 where
   pub kept : readAnswer s .refusal ≡ 0 → OneFile s (readAnswer s .plan)
   pub exact : OfFile s
-  -- where no kind 7 stands where it may, the file is one of document 01, in its records and in what they mean
+  -- where no kind 7 stands where it may, it has document 01's groups and flows
   pub plain : shapeIn s .opened ≡ false → PlainFile s
-  pub plain-numbers : shapeIn s .opened ≡ false → Plain (numbersIn s)
+  pub plain-flow : shapeIn s .opened ≡ false → PlainFlow (numbersIn s)
+  -- where no pattern is a slope either, it is one of document 01, in its kinds and in what they mean
+  pub plain-kinds : PlainHeld (heldIn s) → PlainKinds s
+  pub plain-numbers : PlainHeld (heldIn s) → Plain (heldIn s)
+  -- a file with slopes is answered, and printed, as one that lists the same rates
+  pub alike : Alike (heldIn s)
+  pub printed-alike : (t : List ℕ) → readAnswer s .refusal ≡ 0 → readAnswer t .refusal ≡ 0 → meant (numbersIn s) ≡ meant (numbersIn t) → textOf s ≡ textOf t

@@ -10,15 +10,15 @@ use lib.ListN.{getD}
 use lib.IntN.{ℤ, pos}
 use Rattle.whole.specs.Range.{million, Between, Within}
 use Rattle.whole.specs.Sum.{sumℕ}
-use Rattle.whole.specs.Test.{all, isFrom, isBetween, isWithin}
+use Rattle.whole.specs.Test.{pick, all, isFrom, isBetween, isWithin}
 use Rattle.whole.specs.Table.{table}
 use Rattle.whole.proofs.Bridge.{whole}
 use Rattle.whole.proofs.Entry.{entry-each, entry-own}
 use Rattle.whole.proofs.Table.{table-at}
 use Rattle.whole.proofs.Sum.{Σℕ-from}
 use Rattle.whole.proofs.Test.{both-first, both-second, all-yes, all-at, all-cong, between-fact, between-yes, from-low, from-high, from-yes, pick-few}
-use Rattle.plan.specs.Held.{openings, shapeOf, instrumentHeld, patternHeld, outflowsHeld, openingHeld}
-use Rattle.plan.specs.Numbers.{Numbers, paymentsMeant, ratesMeant, numbers}
+use Rattle.plan.specs.Held.{Held, openings, shapeOf, instrumentHeld, patternHeld, missingPattern, outflowsHeld, openingHeld}
+use Rattle.plan.specs.Numbers.{Numbers, rateOf, untilOf, paymentsMeant, ratesMeant, meaning, numbers}
 use Rattle.plan.specs.Refusal.{
   check,
   firstOf,
@@ -32,6 +32,7 @@ use Rattle.plan.specs.Refusal.{
   openingOk,
   amountsOk,
   rolloverOk,
+  untilsOk,
   ratesFit,
   ratesOk,
   allocationOk,
@@ -46,7 +47,7 @@ use Rattle.plan.specs.Refusal.{
 use Rattle.plan.specs.declared.Instrument.{Instrument}
 use Rattle.plan.specs.declared.Pattern.{Pattern}
 use Rattle.plan.specs.declared.Plan.{Plan}
-use Rattle.plan.proofs.Held.{instrument-is, pattern-is, outflow-is, opening-is, rollover-is, rollover-past, allocation-is, payment-is, rate-is, instrument-each, pattern-each}
+use Rattle.plan.proofs.Held.{instrument-is, pattern-is, outflow-is, opening-is, rollover-is, rollover-past, allocation-is, payment-is, rate-is, until-is, instrument-each, pattern-each}
 
 -- ---- each test of an array is the test of the numbers that stand there
 -- the first n of an array lie between 0 and b
@@ -58,7 +59,10 @@ abbrev pub paymentsTested : (rows : List Instrument) (years j : ℕ) → Bool
 paymentsTested rows years j = upTo most years (paymentsMeant years (instrumentHeld years (getD rows j (record { payments = [] }))))
 
 abbrev pub ratesTested : (rows : List Pattern) (years t : ℕ) → Bool
-ratesTested rows years t = upTo top (years - 1) (ratesMeant years (patternHeld years (getD rows t (record { rates = [] }))))
+ratesTested rows years t = upTo top (years - 1) (ratesMeant years (patternHeld years (getD rows t missingPattern)))
+
+abbrev pub untilTested : (rows : List Pattern) (t : ℕ) → Bool
+untilTested rows t = let row = getD rows t missingPattern in isFrom 1 30 (pick (row .sloped) (row .until) 1)
 
 -- an array that is filled with f has passed if each f has
 up-to-table : (b n : ℕ) (f : ℕ → ℤ) → n ≤ 30 → upTo b n (table 30 n f (pos 0)) ≡ all n (λ k. isBetween (pos 0) (pos b) (f k))
@@ -68,6 +72,11 @@ up-to-table b n f few = all-cong n _ _ (λ k l. ap (isBetween (pos 0) (pos b)) (
 pub opening-passes : (P : Numbers) → ((k : ℕ) → P .b k ≡ pos 0) → openingOk P ≡ true
 unfolding openingOk
 opening-passes P none = all-yes (P .years) _ (λ k l. between-yes _ _ _ (rw (none (1 + k)) (omega whole)))
+
+-- and where no pattern is a slope, T is 1
+pub untils-none : (H : Held) → ((t : ℕ) → H .pattern t .sloped ≡ false) → untilsOk (meaning H) ≡ true
+unfolding untilsOk
+untils-none H none = all-yes (H .shape .patterns) _ (λ t h. rw (none (1 + t)))
 
 module _ (plan : Plan) where
   module _ (years-few : plan .years ≤ 30) where
@@ -79,7 +88,13 @@ module _ (plan : Plan) where
     pub rates-ok : all (plan .patterns) (ratesTested (plan .pattern) (plan .years)) ≡ ratesOk (numbers plan)
     unfolding ratesOk ratesFit
     rates-ok = all-cong (plan .patterns) _ _ (λ t h.
-        rw (pattern-is plan t h) (up-to-table top (plan .years - 1) _ (omega arith)))
+        up-to-table top (plan .years - 1) _ (omega arith)
+        ∙ all-cong (plan .years - 1) _ _ (λ l k. ap (isBetween (pos 0) (pos top)) (sym (rate-is plan t l h k))))
+
+  -- T of a pattern is looked at where it is a slope
+  pub untils-ok : all (plan .patterns) (untilTested (plan .pattern)) ≡ untilsOk (numbers plan)
+  unfolding untilsOk
+  untils-ok = all-cong (plan .patterns) _ _ (λ t h. ap (isFrom 1 30) (sym (until-is plan t h)))
 
   pub outflows-ok : all (plan .years) (λ k. isWithin most (getD (plan .outflows) k (pos 0))) ≡ outflowsOk (numbers plan)
   unfolding outflowsOk
@@ -179,9 +194,18 @@ module _ (plan : Plan) where
   rate-each : ratesOk (numbers plan) ≡ true → (t l : ℕ) → Between (pos 0) (pos top) (numbers plan .i t l)
   unfolding ratesOk ratesFit
   rate-each e t l =
-      pattern-each plan (λ i. Between (pos 0) (pos top) (i .rate (l - 1))) (omega whole)
+      pattern-each plan (λ i. Between (pos 0) (pos top) (rateOf (plan .years) i l))
+      (entry-each (pos 0) (plan .years - 1) _ (Between (pos 0) (pos top)) (omega whole) (λ l k. omega whole) (l - 1))
       (λ t h. entry-each (pos 0) (plan .years - 1) _ (Between (pos 0) (pos top)) (omega whole)
       (λ l k. rw (← rate-is plan t l h k) (between-fact _ _ _ (all-at (plan .years - 1) _ l k (all-at (plan .patterns) _ t h e)))) (l - 1)) t
+
+  -- where a pattern is outside m it is no slope, so T is 1
+  until-each : untilsOk (numbers plan) ≡ true → (t : ℕ) → (1 ≤ numbers plan .T t) × (numbers plan .T t ≤ 30)
+  unfolding untilsOk
+  until-each e =
+      pattern-each plan (λ i. (1 ≤ untilOf i) × (untilOf i ≤ 30)) (omega arith, omega arith)
+      (λ t h. let f = all-at (plan .patterns) _ t h e in
+      rw (← ap untilOf (pattern-is plan t h)) (from-low 1 30 (numbers plan .T (1 + t)) f, from-high 1 30 (numbers plan .T (1 + t)) f))
 
 -- what each part of the refusal says where it is none
 pub head-passed : (P : Numbers) → headRefusal P ≡ 0 → Head P
@@ -199,6 +223,8 @@ accepted plan e =
     let both₆ = check-true (amountsOk P) 6 _ (omega arith) amounts in
     let flows₆ = both-second (paymentsOk P) _ both₆ in
     let e₇ = check-rest (amountsOk P) 6 _ (omega arith) amounts in
+    let e₁₃ = first-none (ratesRefusal P) _ e₈ in
+    let untils = until-each plan (check-true (untilsOk P) 13 _ (omega arith) e₁₃) in
     record {
       head = head-passed P (first-none (headRefusal P) _ e);
       payments = payment-each plan (both-first _ _ both₆);
@@ -206,7 +232,9 @@ accepted plan e =
       opening = opening-each plan (both-second (outflowsOk P) _ flows₆);
       rollover = eqb-true _ _ (check-true (rolloverOk P) 7 0 (omega arith) e₇);
       rollover-past = rollover-past plan;
-      rates = rate-each plan (check-true (ratesOk P) 8 0 (omega arith) (first-none (ratesRefusal P) _ e₈));
+      until-some = λ t. untils t .0;
+      until-few = λ t. untils t .1;
+      rates = rate-each plan (check-true (ratesOk P) 8 0 (omega arith) (check-rest (untilsOk P) 13 _ (omega arith) e₁₃));
       allocation = eqb-true _ _ (check-true (allocationOk P) 9 0 (omega arith) (first-next (ratesRefusal P) _ e₈));
     }
 
@@ -230,10 +258,14 @@ module _ {P : Numbers} (ok : Accepted P) where
   unfolding openingOk
   opening-pass = all-yes (P .years) _ (λ k l. between-yes _ _ _ (ok .opening (1 + k)))
 
+  untils-pass : untilsOk P ≡ true
+  unfolding untilsOk
+  untils-pass = all-yes (P .patterns) _ (λ t h. from-yes 1 30 (P .T (1 + t)) (ok .until-some (1 + t)) (ok .until-few (1 + t)))
+
   rates-pass : ratesOk P ≡ true
   unfolding ratesOk ratesFit
   rates-pass = all-yes (P .patterns) _ (λ t h. all-yes (P .years - 1) _ (λ l k. between-yes _ _ _ (ok .rates (1 + t) (2 + l))))
 
   pub accepted-none : refusalOf P ≡ 0
   unfolding refusalOf headRefusal amountsRefusal ratesRefusal allocationRefusal amountsOk rolloverOk allocationOk
-  accepted-none = rw (head-passes, payments-pass, outflows-pass, opening-pass, eq-eqb _ _ (ok .rollover), rates-pass, eq-eqb _ _ (ok .allocation))
+  accepted-none = rw (head-passes, payments-pass, outflows-pass, opening-pass, eq-eqb _ _ (ok .rollover), untils-pass, rates-pass, eq-eqb _ _ (ok .allocation))

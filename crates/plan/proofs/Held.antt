@@ -10,13 +10,15 @@ use Rattle.whole.specs.Entry.{entry}
 use Rattle.whole.specs.Table.{table}
 use Rattle.whole.proofs.Entry.{entry-at, entry-zero, entry-beyond, entry-empty, entry-each, entry-cong, entry-own, entry-none}
 use Rattle.whole.proofs.Table.{table-at}
-use Rattle.whole.proofs.Test.{pick-few}
+use Rattle.whole.proofs.Test.{pick-few, pick-none-few, pick-again}
+use Rattle.plan.specs.declared.Pattern.{Pattern}
 use Rattle.plan.specs.declared.Plan.{Plan}
 use Rattle.plan.specs.Held.{
   HeldInstrument,
   HeldPattern,
   Held,
   openings,
+  ratesListed,
   unheldInstrument,
   unheldPattern,
   instrumentHeld,
@@ -37,13 +39,17 @@ use Rattle.plan.specs.Held.{
   patternFrom,
   planFrom,
 }
-use Rattle.plan.specs.Numbers.{numbers}
+use Rattle.plan.specs.Numbers.{rateIn, rateOf, untilOf, numbers}
 use Rattle.plan.specs.Refusal.{Head}
 
 -- money that is held for all years or for none: in a year it is the amount, or 0
 money-at : (opened : Bool) (N : ℕ) (f : ℕ → ℤ) (k : ℕ) → k < N → entry (pos 0) (pick opened N 0) f (1 + k) ≡ pick opened (f k) (pos 0)
 money-at true N f k h = entry-at (pos 0) N f k h
 money-at false N f k h = entry-empty (pos 0) f (1 + k)
+
+-- the rate of a pattern in year 2 + l
+pub rate-at : (N : ℕ) (i : HeldPattern) (l : ℕ) → l < N - 1 → rateOf N i (2 + l) ≡ rateIn i l
+rate-at N i l h = let e : 2 + l - 1 ≡ 1 + l = omega arith in rw e (entry-at (pos 0) (N - 1) (rateIn i) l h)
 
 -- ---- where it stands
 module _ (plan : Plan) where
@@ -72,11 +78,11 @@ module _ (plan : Plan) where
       ap (λ (a : HeldInstrument). a .payment (1 + k)) (instrument-is j h)
       ∙ entry-at (pos 0) (plan .years) (λ k. getD (instrumentAt plan j .payments) k (pos 0)) k l
 
-  pub rate-is : (t l : ℕ) → t < plan .patterns → l < plan .years - 1 → numbers plan .i (1 + t) (2 + l) ≡ getD (patternAt plan t .rates) l (pos 0)
-  rate-is t l h k =
-      let e : 2 + l - 1 ≡ 1 + l = omega arith in
-      ap (λ (i : HeldPattern). i .rate (2 + l - 1)) (pattern-is t h)
-      ∙ rw e (entry-at (pos 0) (plan .years - 1) (λ l. getD (patternAt plan t .rates) l (pos 0)) l k)
+  pub rate-is : (t l : ℕ) → t < plan .patterns → l < plan .years - 1 → numbers plan .i (1 + t) (2 + l) ≡ rateIn (patternHeld (plan .years) (patternAt plan t)) l
+  rate-is t l h k = rate-at (plan .years) (held plan .pattern (1 + t)) l k ∙ ap (λ (i : HeldPattern). rateIn i l) (pattern-is t h)
+
+  pub until-is : (t : ℕ) → t < plan .patterns → numbers plan .T (1 + t) ≡ pick (patternAt plan t .sloped) (patternAt plan t .until) 1
+  until-is t h = ap untilOf (pattern-is t h) ∙ pick-again (patternAt plan t .sloped) _ 0 1
 
   pub opening-is : (k : ℕ) → k < plan .years → numbers plan .b (1 + k) ≡ pick (plan .opened) (getD (plan .opening) k (pos 0)) (pos 0)
   unfolding openingHeld
@@ -132,6 +138,32 @@ module _ (plan : Plan) where
   rollover-past = entry-beyond 0 (plan .terms) _
 
 -- ---- the plan of what is held holds just that
+-- a pattern that lists its rates has no slope, and a slope lists none
+pub record TidyPattern (N : ℕ) (i : HeldPattern) : Type 0 where
+  pub rate : i .rate ≡ entry (pos 0) (ratesListed N (i .sloped)) (λ l. i .rate (1 + l))
+  pub start : i .start ≡ pick (i .sloped) (i .start) (pos 0)
+  pub step : i .step ≡ pick (i .sloped) (i .step) (pos 0)
+  pub until : i .until ≡ pick (i .sloped) (i .until) 0
+
+pub tidy-none : (N : ℕ) → TidyPattern N unheldPattern
+tidy-none N = record { rate = entry-none (pos 0) (N - 1); start = refl; step = refl; until = refl }
+
+-- T of such a pattern is small where check 13 takes it, and 0 where it is not looked at
+pub until-small : {N : ℕ} {i : HeldPattern} → TidyPattern N i → untilOf i ≤ 30 → i .until ≤ 30
+until-small {i = i} tidy few = go (i .sloped) (i .until) (tidy .until) few
+  where
+    go : (b : Bool) (n : ℕ) → n ≡ pick b n 0 → pick b n 1 ≤ 30 → n ≤ 30
+    go true n e h = h
+    go false n e h = omega arith
+
+tidy-row : (N : ℕ) (row : Pattern) → TidyPattern N (patternHeld N row)
+tidy-row N row = record {
+  rate = entry-own (pos 0) (ratesListed N (row .sloped)) _;
+  start = sym (pick-again (row .sloped) _ (pos 0) (pos 0));
+  step = sym (pick-again (row .sloped) _ (pos 0) (pos 0));
+  until = sym (pick-again (row .sloped) _ 0 0);
+}
+
 -- what is held lies within N, n, q and m, and these within the arrays
 pub record Tidy (H : Held) : Type 0 where
   pub years-few : H .shape .years ≤ 30
@@ -143,7 +175,7 @@ pub record Tidy (H : Held) : Type 0 where
   pub outflow : H .outflow ≡ entry (pos 0) (H .shape .years) (λ k. H .outflow (1 + k))
   pub rollover : H .rollover ≡ entry 0 (H .shape .terms) (λ d. H .rollover (1 + d))
   pub pattern : H .pattern ≡ entry unheldPattern (H .shape .patterns) (λ t. H .pattern (1 + t))
-  pub rate : (t : ℕ) → H .pattern t .rate ≡ entry (pos 0) (H .shape .years - 1) (λ l. H .pattern t .rate (1 + l))
+  pub rates : (t : ℕ) → TidyPattern (H .shape .years) (H .pattern t)
   pub allocation : H .allocation ≡ entry 0 (H .shape .instruments) (λ j. H .allocation (1 + j))
   pub opening : H .opening ≡ entry (pos 0) (openings (H .shape)) (λ k. H .opening (1 + k))
 
@@ -160,7 +192,7 @@ tidy-held plan h = record {
   outflow = entry-own (pos 0) (plan .years) _;
   rollover = entry-own 0 (plan .terms) _;
   pattern = entry-own unheldPattern (plan .patterns) _;
-  rate = pattern-each plan (λ i. i .rate ≡ entry (pos 0) (plan .years - 1) (λ l. i .rate (1 + l))) (entry-none (pos 0) (plan .years - 1)) (λ t l. entry-own (pos 0) (plan .years - 1) _);
+  rates = pattern-each plan (TidyPattern (plan .years)) (tidy-none (plan .years)) (λ t l. tidy-row (plan .years) (patternAt plan t));
   allocation = entry-own 0 (plan .instruments) _;
   opening = entry-own (pos 0) (openings (shapeOf plan)) _;
 }
@@ -168,6 +200,11 @@ tidy-held plan h = record {
 -- the first n of an array that is filled with f are those of f
 entry-table : {A : Type 0} (z d e : A) (m n : ℕ) (f : ℕ → A) → n ≤ m → entry z n (λ k. getD (table m n f d) k e) ≡ entry z n f
 entry-table z d e m n f few = fun-ext (entry-cong z n _ f (λ k l. table-at m n f d e k l few))
+
+pattern-from : (N : ℕ) (i : HeldPattern) → N ≤ 30 → TidyPattern N i → patternHeld N (patternFrom N i) ≡ i
+pattern-from N i few tidy =
+    let listed : ratesListed N (i .sloped) ≤ 30 = omega (arith, few, pick-none-few (i .sloped) (N - 1)) in
+    rw (entry-table (pos 0) (pos 0) (pos 0) 30 (ratesListed N (i .sloped)) (λ l. i .rate (1 + l)) listed, ← tidy .rate, ← tidy .start, ← tidy .step, ← tidy .until)
 
 module _ (H : Held) (tidy : Tidy H) where
   same-instruments : instrumentsHeld (planFrom H) ≡ H .instrument
@@ -183,7 +220,7 @@ module _ (H : Held) (tidy : Tidy H) where
   same-patterns =
       fun-ext (entry-cong unheldPattern (H .shape .patterns) _ (λ t. H .pattern (1 + t)) (λ t l.
       ap (patternHeld (H .shape .years)) (table-at 64 (H .shape .patterns) (λ t. patternFrom (H .shape .years) (H .pattern (1 + t))) noPattern _ t l (tidy .patterns-few))
-      ∙ ap (λ (f : ℕ → ℤ). record { rate = f }) (entry-table (pos 0) (pos 0) (pos 0) 30 (H .shape .years - 1) _ (omega (arith, tidy .years-few)) ∙ sym (tidy .rate (1 + t)))))
+      ∙ pattern-from (H .shape .years) (H .pattern (1 + t)) (tidy .years-few) (tidy .rates (1 + t))))
       ∙ sym (tidy .pattern)
 
   same-outflows : outflowsHeld (planFrom H) ≡ H .outflow

@@ -1,11 +1,20 @@
--- The plans of the worked cases: L and its neighbours, and the plans of one year.
-use mathlib.Core.Bool.{Bool, false}
-use mathlib.Core.List.{_∷_}
+-- The plans of the worked cases: L and its neighbours, the plans of one year, those of four with one pattern, and those of three with a
+-- slope and a list.
+use mathlib.Core.Bool.{Bool, true, false}
+use mathlib.Core.List.{List, _∷_}
 use Prim.Native.Nat.{ℕ}
 use lib.ListN.{replicate}
 use lib.IntN.{ℤ, pos}
+use Rattle.plan.specs.declared.Pattern.{Pattern}
 use Rattle.plan.specs.declared.Plan.{Plan}
 use Rattle.plan.specs.Held.{noInstrument, noPattern}
+
+-- a pattern that lists these rates, and one that is a slope
+abbrev pub listed : List ℤ → Pattern
+listed rates = record { rates = rates; sloped = false; start = pos 0; step = pos 0; until = 0; spare = 0 }
+
+abbrev pub stepped : (start step : ℤ) (until : ℕ) → Pattern
+stepped start step until = record { rates = replicate 30 (pos 0); sloped = true; start = start; step = step; until = until; spare = 0 }
 
 -- L, but for the share that is rolled over in the first term and the rate of the first pattern
 unfoldable pub nearL : (share : ℕ) (rate : ℤ) → Plan
@@ -20,7 +29,7 @@ nearL share rate = record {
       ∷ replicate 14 noInstrument;
   outflows = pos 0 ∷ pos 1_160_000_000 ∷ replicate 28 (pos 0);
   rollover = share ∷ replicate 29 0;
-  pattern = record { rates = rate ∷ replicate 29 (pos 0) } ∷ record { rates = pos 90_000 ∷ replicate 29 (pos 0) } ∷ replicate 62 noPattern;
+  pattern = listed (rate ∷ replicate 29 (pos 0)) ∷ listed (pos 90_000 ∷ replicate 29 (pos 0)) ∷ replicate 62 noPattern;
   allocation = 500_000 ∷ 500_000 ∷ replicate 14 0;
   opened = false;
   opening = replicate 30 (pos 0);
@@ -48,3 +57,39 @@ renewed outflow opened money = record {
 -- without such money
 unfoldable pub oneYear : (outflow : ℤ) → Plan
 oneYear outflow = renewed outflow false (pos 0)
+
+-- four years, 1000000000 in the first, all of it rolled over every year, and this pattern
+unfoldable pub fourYears : Pattern → Plan
+fourYears row = record {
+  years = 4;
+  instruments = 1;
+  terms = 1;
+  patterns = 1;
+  instrument = record { payments = pos 1_000_000_000 ∷ replicate 29 (pos 0) } ∷ replicate 15 noInstrument;
+  outflows = replicate 30 (pos 0);
+  rollover = 1_000_000 ∷ replicate 29 0;
+  pattern = row ∷ replicate 63 noPattern;
+  allocation = 1_000_000 ∷ replicate 15 0;
+  opened = false;
+  opening = replicate 30 (pos 0);
+}
+
+-- three years, one payment of 1080000000, and two patterns: a slope, and a list of 60000 and 90000; and what each of the two carries for
+-- the kind that it does not hold
+unfoldable pub sloping : (start step : ℤ) (until other : ℕ) → Plan
+sloping start step until other = record {
+  years = 3;
+  instruments = 1;
+  terms = 1;
+  patterns = 2;
+  instrument = record { payments = pos 1_080_000_000 ∷ replicate 29 (pos 0) } ∷ replicate 15 noInstrument;
+  outflows = replicate 30 (pos 0);
+  rollover = 1_000_000 ∷ replicate 29 0;
+  pattern =
+      record { rates = replicate 30 (pos other); sloped = true; start = start; step = step; until = until; spare = 0 }
+      ∷ record { rates = pos 60_000 ∷ pos 90_000 ∷ replicate 28 (pos 0); sloped = false; start = pos other; step = pos other; until = other; spare = other }
+      ∷ replicate 62 noPattern;
+  allocation = 1_000_000 ∷ replicate 15 0;
+  opened = false;
+  opening = replicate 30 (pos 0);
+}

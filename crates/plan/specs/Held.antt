@@ -1,11 +1,13 @@
 -- What a plan or a file holds, as it was typed: numbers by document 01's indices, each 0 outside N, n, q and m, and 0 for a kind that is
 -- not held. `held` says it of a plan held as values; what an array has past these counts, or for a kind that is not held, plays no part.
 -- `planFrom` is the plan that holds just this, with zeros elsewhere.
+use mathlib.Core.Path.{_≡_}
 use mathlib.Core.Bool.{Bool, false}
 use mathlib.Core.List.{[]}
-use Prim.Native.Nat.{ℕ, _+_, _-_}
+use Prim.Native.Nat.{ℕ, _+_, _-_, _<_}
 use lib.ListN.{getD, replicate}
-use lib.IntN.{ℤ, pos}
+use lib.IntN.{ℤ, pos, negsuc}
+use Rattle.whole.specs.Range.{Between}
 use Rattle.whole.specs.Test.{pick}
 use Rattle.whole.specs.Entry.{entry}
 use Rattle.whole.specs.Table.{table}
@@ -18,9 +20,14 @@ use Rattle.plan.specs.declared.Plan.{Plan}
 pub record HeldInstrument : Type 0 where
   pub payment : (k : ℕ) → ℤ
 
--- a pattern: its rates, of which the first is that of year 2
+-- a pattern: its rates, of which the first is that of year 2; or, where it is a slope (document 02, item 2), its start i_0, its step d
+-- and T, the year from which on it is level
 pub record HeldPattern : Type 0 where
+  pub sloped : Bool
   pub rate : (l : ℕ) → ℤ
+  pub start : ℤ
+  pub step : ℤ
+  pub until : ℕ
 
 pub record Held : Type 0 where
   pub shape : Shape
@@ -31,6 +38,11 @@ pub record Held : Type 0 where
   pub allocation : (j : ℕ) → ℕ
   pub opening : (k : ℕ) → ℤ
 
+-- nothing is held that document 01 does not know: no money already invested, and no slope
+pub record PlainHeld (H : Held) : Type 0 where
+  pub opened : H .shape .opened ≡ false
+  pub sloped : (t : ℕ) → H .pattern t .sloped ≡ false
+
 -- 1 where a kind is held, 0 where it is not: how many records it has
 abbrev pub flag : Bool → ℕ
 flag isHeld = pick isHeld 1 0
@@ -39,12 +51,16 @@ flag isHeld = pick isHeld 1 0
 abbrev pub openings : Shape → ℕ
 openings h = pick (h .opened) (h .years) 0
 
+-- how many rates a pattern lists over N years: those of years 2 to N, or none where it is a slope
+abbrev pub ratesListed : (N : ℕ) → (sloped : Bool) → ℕ
+ratesListed N sloped = pick sloped 0 (N - 1)
+
 -- what is outside n and m
 abbrev pub unheldInstrument : HeldInstrument
 unheldInstrument = record { payment = λ k. pos 0 }
 
 abbrev pub unheldPattern : HeldPattern
-unheldPattern = record { rate = λ l. pos 0 }
+unheldPattern = record { sloped = false; rate = λ l. pos 0; start = pos 0; step = pos 0; until = 0 }
 
 -- ---- of a plan
 -- one row over N years
@@ -52,7 +68,17 @@ abbrev pub instrumentHeld : (N : ℕ) → Instrument → HeldInstrument
 instrumentHeld N row = record { payment = entry (pos 0) N (λ k. getD (row .payments) k (pos 0)) }
 
 abbrev pub patternHeld : (N : ℕ) → Pattern → HeldPattern
-patternHeld N row = record { rate = entry (pos 0) (N - 1) (λ l. getD (row .rates) l (pos 0)) }
+patternHeld N row = record {
+  sloped = row .sloped;
+  rate = entry (pos 0) (ratesListed N (row .sloped)) (λ l. getD (row .rates) l (pos 0));
+  start = pick (row .sloped) (row .start) (pos 0);
+  step = pick (row .sloped) (row .step) (pos 0);
+  until = pick (row .sloped) (row .until) 0;
+}
+
+-- what is read past the end of an array of patterns
+abbrev pub missingPattern : Pattern
+missingPattern = record { rates = []; sloped = false; start = pos 0; step = pos 0; until = 0; spare = 0 }
 
 module _ (plan : Plan) where
   abbrev pub shapeOf : Shape
@@ -63,7 +89,7 @@ module _ (plan : Plan) where
   instrumentAt j = getD (plan .instrument) j (record { payments = [] })
 
   abbrev pub patternAt : (t : ℕ) → Pattern
-  patternAt t = getD (plan .pattern) t (record { rates = [] })
+  patternAt t = getD (plan .pattern) t missingPattern
 
   unfoldable pub instrumentsHeld : (j : ℕ) → HeldInstrument
   instrumentsHeld = entry unheldInstrument (plan .instruments) (λ j. instrumentHeld (plan .years) (instrumentAt j))
@@ -94,13 +120,22 @@ module _ (plan : Plan) where
     opening = openingHeld;
   }
 
+-- a pattern's types say that a start and a step have 32 bits; no check does
+pub record SlopeTyped (row : Pattern) : Type 0 where
+  pub start : Between (negsuc 2_147_483_647) (pos 2_147_483_647) (row .start)
+  pub step : Between (negsuc 2_147_483_647) (pos 2_147_483_647) (row .step)
+
+-- those of a plan's patterns
+abbrev pub Typed : Plan → Type 0
+Typed plan = (t : ℕ) → t < plan .patterns → SlopeTyped (patternAt plan t)
+
 -- ---- the plan of what is held
 -- nothing held
 abbrev pub noInstrument : Instrument
 noInstrument = record { payments = replicate 30 (pos 0) }
 
 abbrev pub noPattern : Pattern
-noPattern = record { rates = replicate 30 (pos 0) }
+noPattern = record { rates = replicate 30 (pos 0); sloped = false; start = pos 0; step = pos 0; until = 0; spare = 0 }
 
 abbrev pub noPlan : Plan
 noPlan = record {
@@ -122,7 +157,14 @@ abbrev pub instrumentFrom : (N : ℕ) → HeldInstrument → Instrument
 instrumentFrom N a = record { payments = table 30 N (λ k. a .payment (1 + k)) (pos 0) }
 
 abbrev pub patternFrom : (N : ℕ) → HeldPattern → Pattern
-patternFrom N i = record { rates = table 30 (N - 1) (λ l. i .rate (1 + l)) (pos 0) }
+patternFrom N i = record {
+  rates = table 30 (ratesListed N (i .sloped)) (λ l. i .rate (1 + l)) (pos 0);
+  sloped = i .sloped;
+  start = i .start;
+  step = i .step;
+  until = i .until;
+  spare = 0;
+}
 
 unfoldable pub planFrom : Held → Plan
 planFrom H =

@@ -1,15 +1,17 @@
--- What is held means: numbers by document 01's letters and indices, each 0 outside N, n, q and m. Every refusal, answer and theorem is
--- over these numbers, and none over a plan or a file.
+-- What is held means: numbers by document 01's letters and indices, each 0 outside N, n, q and m (but T, which is 1 where there is no
+-- slope). Every refusal, answer and theorem is over these numbers, and none over a plan or a file.
 use mathlib.Core.List.{List}
-use Prim.Native.Nat.{ℕ, _+_, _-_}
-use lib.IntN.{ℤ, pos}
+use Prim.Native.Nat.{ℕ, _+_, _-_, min}
+use lib.IntN.{ℤ, pos, _+ℤ_, _-ℤ_, _*ℤ_}
+use Rattle.whole.specs.Test.{pick}
+use Rattle.whole.specs.Entry.{entry}
 use Rattle.whole.specs.Table.{table}
 use Rattle.plan.specs.declared.Plan.{Plan}
 use Rattle.plan.specs.Held.{HeldInstrument, HeldPattern, Held, held}
 
 -- N, n, q, m; the payment a_kj of instrument j in year k, the outflow o_k, the rollover share r_d, the rate i_l of pattern t,
 -- the share p_j of the allocation, and what money already invested pays in year k, b_k (document 02, item 1; a_k0 in document
--- 004, equation 2')
+-- 004, equation 2'); T of pattern t, which check 13 looks at: 1 where the pattern is no slope
 pub record Numbers : Type 0 where
   pub years : ℕ
   pub instruments : ℕ
@@ -21,13 +23,27 @@ pub record Numbers : Type 0 where
   pub i : (t l : ℕ) → ℤ
   pub p : (j : ℕ) → ℕ
   pub b : (k : ℕ) → ℤ
+  pub T : (t : ℕ) → ℕ
 
--- what an instrument pays in year k, and the rate of a pattern in year l, whose first is that of year 2
+-- what an instrument pays in year k
 abbrev pub paymentOf : HeldInstrument → (k : ℕ) → ℤ
 paymentOf a = a .payment
 
-abbrev pub rateOf : HeldPattern → (l : ℕ) → ℤ
-rateOf i l = i .rate (l - 1)
+-- what a slope means in year k: i_k = i_0 + (min(k, T) - 1) × d (document 02, item 2; document 004, figure 4)
+unfoldable pub slope : (i₀ d : ℤ) (T k : ℕ) → ℤ
+slope i₀ d T k = i₀ +ℤ (pos (min k T) -ℤ pos 1) *ℤ d
+
+-- the rate of a pattern in year 2 + l: listed, or of its slope
+abbrev pub rateIn : HeldPattern → (l : ℕ) → ℤ
+rateIn i l = pick (i .sloped) (slope (i .start) (i .step) (i .until) (2 + l)) (i .rate (1 + l))
+
+-- and in year k of N, whose first rate is that of year 2
+abbrev pub rateOf : (N : ℕ) → HeldPattern → (k : ℕ) → ℤ
+rateOf N i k = entry (pos 0) (N - 1) (rateIn i) (k - 1)
+
+-- T, where the pattern is a slope
+abbrev pub untilOf : HeldPattern → ℕ
+untilOf i = pick (i .sloped) (i .until) 1
 
 -- the meaning of what is held
 abbrev pub meaning : Held → Numbers
@@ -39,9 +55,10 @@ meaning H = record {
   a = λ k j. paymentOf (H .instrument j) k;
   o = H .outflow;
   r = H .rollover;
-  i = λ t. rateOf (H .pattern t);
+  i = λ t. rateOf (H .shape .years) (H .pattern t);
   p = H .allocation;
   b = H .opening;
+  T = λ t. untilOf (H .pattern t);
 }
 
 -- of a plan
@@ -53,4 +70,4 @@ abbrev pub paymentsMeant : (N : ℕ) → HeldInstrument → List ℤ
 paymentsMeant N a = table 30 N (λ k. paymentOf a (1 + k)) (pos 0)
 
 abbrev pub ratesMeant : (N : ℕ) → HeldPattern → List ℤ
-ratesMeant N i = table 30 (N - 1) (λ l. rateOf i (2 + l)) (pos 0)
+ratesMeant N i = table 30 (N - 1) (rateIn i) (pos 0)

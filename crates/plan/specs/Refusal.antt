@@ -1,4 +1,4 @@
--- Document 01, "Checking order", for a plan held as values: check 3 (ranges only), then 6 to 9.
+-- Document 01, "Checking order", for a plan held as values: check 3 (ranges only), then 6 to 9, with document 02's 13 right before 8.
 use mathlib.Core.Bool.{Bool, true, false}
 use Prim.Native.Nat.{ℕ, zero, suc, _+_, _-_, _≤_, _<_}
 use mathlib.Core.Path.{_≡_}
@@ -64,6 +64,10 @@ module _ (P : Numbers) where
   unfoldable pub rolloverOk : Bool
   rolloverOk = eqb (Σℕ 1 (P .terms) (P .r)) million
 
+  -- 13: T of a slope is 1 to 30 (document 02, item 2)
+  unfoldable pub untilsOk : Bool
+  untilsOk = all (P .patterns) (λ t. isFrom 1 30 (P .T (1 + t)))
+
   -- 8: the rates i_2 to i_N of pattern 1 + t, those of all
   unfoldable pub ratesFit : (t : ℕ) → Bool
   ratesFit t = all (P .years - 1) (λ l. isBetween (pos 0) (pos top) (P .i (1 + t) (2 + l)))
@@ -92,8 +96,9 @@ module _ (P : Numbers) where
   -- the patterns
   unfoldable pub ratesRefusal : ℕ
   ratesRefusal =
-      check ratesOk 8
-      0
+      check untilsOk 13
+      (check ratesOk 8
+      0)
 
   -- the allocation
   unfoldable pub allocationRefusal : ℕ
@@ -116,7 +121,7 @@ pub record Head (P : Numbers) : Type 0 where
   pub patterns-some : 1 ≤ P .patterns
   pub patterns-few : P .patterns ≤ 64
 
--- what a plan has that is not refused, for every index: what lies outside N, n, q and m is 0
+-- what a plan has that is not refused, for every index: what lies outside N, n, q and m is 0, and T is 1 there
 pub record Accepted (P : Numbers) : Type 0 where
   pub head : Head P
   pub payments : (k j : ℕ) → Between (pos 0) (pos most) (P .a k j)
@@ -124,5 +129,7 @@ pub record Accepted (P : Numbers) : Type 0 where
   pub opening : (k : ℕ) → Between (pos 0) (pos most) (P .b k)
   pub rollover : Σℕ 1 (P .terms) (P .r) ≡ million
   pub rollover-past : (d : ℕ) → P .terms < d → P .r d ≡ 0
+  pub until-some : (t : ℕ) → 1 ≤ P .T t
+  pub until-few : (t : ℕ) → P .T t ≤ 30
   pub rates : (t l : ℕ) → Between (pos 0) (pos top) (P .i t l)
   pub allocation : Σℕ 1 (P .instruments) (P .p) ≡ million

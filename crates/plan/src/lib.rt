@@ -1,13 +1,15 @@
 // The plan held as values, what it means in arrays, and the checks that refuse it.
 ghost use mathlib.Core.Path.{_≡_};
-ghost use Prim.Native.Nat.{_≤_};
+ghost use mathlib.Core.Bool.{true};
+ghost use Prim.Native.Nat.{_+_, _-_, _≤_, min};
 ghost use lib.ListN.{length, getD};
 ghost use lib.IntN.{pos};
 ghost use Rattle.whole.specs.Sum.{sumℕ};
 ghost use Rattle.whole.specs.Test.{pick, all, isFrom, isBetween};
-ghost use Rattle.plan.specs.Held.{flag, shapeOf, instrumentHeld, patternHeld};
-ghost use Rattle.plan.specs.Numbers.{paymentsMeant, ratesMeant, numbers};
-ghost use Rattle.plan.specs.Refusal.{Head, shapeOk, paymentsOk, outflowsOk, openingOk, amountsOk, rolloverOk, ratesOk, allocationOk, headRefusal, amountsRefusal, ratesRefusal, allocationRefusal, refusalOf};
+ghost use Rattle.whole.specs.Table.{table};
+ghost use Rattle.plan.specs.Held.{flag, shapeOf, instrumentHeld, patternHeld, SlopeTyped, Typed};
+ghost use Rattle.plan.specs.Numbers.{paymentsMeant, slope, ratesMeant, numbers};
+ghost use Rattle.plan.specs.Refusal.{Head, shapeOk, paymentsOk, outflowsOk, openingOk, amountsOk, rolloverOk, untilsOk, ratesOk, allocationOk, headRefusal, amountsRefusal, ratesRefusal, allocationRefusal, refusalOf};
 
 // N, n, q and m, and which kinds are held that may be absent: what decides which records a plan file has.
 pub struct Shape {
@@ -23,9 +25,16 @@ pub struct Instrument {
     pub payments: [i64; 30],
 }
 
-// The rates i_2, i_3 and on of one new-money pattern.
+// A new-money pattern: its rates i_2, i_3 and on; or, where it is a slope, its start, its step and T, the year from which on it is level.
+// What it carries for the one that it is not plays no part, and `spare` never does: it fills the row up, so that a plan of zeros is one run
+// of zero bytes.
 pub struct Pattern {
     pub rates: [i32; 30],
+    pub start: i32,
+    pub step: i32,
+    pub sloped: bool,
+    pub until: u8,
+    pub spare: u16,
 }
 
 // N, n, q and m, and the numbers that they count; what an array holds past them plays no part. `opened` says whether the plan holds
@@ -85,12 +94,45 @@ fn wide(x: i32) -> i64
     x as i64
 }
 
-// The rates of a pattern in years 2 to `years`, one fewer than there are years, and zeros past them.
+fn smaller(a: usize, b: usize) -> usize
+    ensures { λ r. ⌜ r ≡ min a b ⌝ }
+{
+    if a < b { a } else { b }
+}
+
+// The rate of a slope in a year: from its start on, a step for every year after the first, up to year `until`.
+fn slope(start: i32, step: i32, until: u8, year: usize) -> i64
+    requires { ⌜ year ≤ 30 ⌝ }
+    ensures { λ r. ⌜ r ≡ slope start step until year ⌝ }
+{
+    let steps = smaller(year, until as usize) as i64 - 1;
+    wide(start) + steps * wide(step)
+}
+
+// The rates of a slope in years 2 to `years`, and zeros past them.
+fn slope_rates(start: i32, step: i32, until: u8, years: usize) -> [i64; 30]
+    requires { ⌜ 1 ≤ years ⌝ }
+    requires { ⌜ years ≤ 30 ⌝ }
+    ensures { λ r. ⌜ r ≡ table 30 (years - 1) (λ l. slope start step until (2 + l)) (pos 0) ⌝ }
+{
+    let n = years - 1;
+    let mut v = [0i64; 30];
+    for l in 0..n {
+        v[l] = slope(start, step, until, 2 + l);
+    }
+    v
+}
+
+// The rates that a pattern means in years 2 to `years`, one fewer than there are years, and zeros past them.
 pub fn rates(row: Pattern, years: usize) -> [i64; 30]
     requires { ⌜ 1 ≤ years ⌝ }
     requires { ⌜ years ≤ 30 ⌝ }
     ensures { λ r. ⌜ r ≡ ratesMeant years (patternHeld years row) ⌝ }
 {
+    let sloped = row.sloped;
+    if sloped {
+        return slope_rates(row.start, row.step, row.until, years);
+    }
     let xs = row.rates;
     let n = years - 1;
     let mut v = [0i64; 30];
@@ -230,6 +272,35 @@ fn rollover_ok(plan: Plan) -> bool
     sum(&rollover, plan.terms) == 1_000_000
 }
 
+// Check 13 of one pattern.
+fn until_ok(row: Pattern) -> bool
+    ensures is { λ b. ⌜ b ≡ isFrom 1 30 (pick (row .sloped) (row .until) 1) ⌝ }
+    ensures typed { λ _. ⌜ SlopeTyped row ⌝ }
+{
+    let sloped = row.sloped;
+    if !sloped {
+        return true;
+    }
+    is_from(1, 30, row.until as usize)
+}
+
+// Check 13.
+fn untils_ok(plan: Plan) -> bool
+    requires { ⌜ Head (numbers plan) ⌝ }
+    ensures is { λ b. ⌜ b ≡ untilsOk (numbers plan) ⌝ }
+    ensures typed { λ b. ⌜ (b ≡ true → Typed plan) ⌝ }
+{
+    let m = plan.patterns;
+    let pattern = plan.pattern;
+    for t in 0..m {
+        let one = pattern[t];
+        if !until_ok(one) {
+            return false;
+        }
+    }
+    true
+}
+
 // Check 8.
 fn rates_ok(plan: Plan) -> bool
     requires { ⌜ Head (numbers plan) ⌝ }
@@ -283,11 +354,15 @@ pub fn amounts_refusal(plan: Plan) -> u8
     0
 }
 
-// That of the patterns: 8, or 0.
+// That of the patterns: 13 or 8, or 0.
 pub fn rates_refusal(plan: Plan) -> u8
     requires { ⌜ Head (numbers plan) ⌝ }
-    ensures { λ s. ⌜ s ≡ ratesRefusal (numbers plan) ⌝ }
+    ensures is { λ s. ⌜ s ≡ ratesRefusal (numbers plan) ⌝ }
+    ensures typed { λ s. ⌜ (s ≡ 0 → Typed plan) ⌝ }
 {
+    if !untils_ok(plan) {
+        return 13;
+    }
     if !rates_ok(plan) {
         return 8;
     }
@@ -305,9 +380,10 @@ pub fn allocation_refusal(plan: Plan) -> u8
     0
 }
 
-// The number of the first of the checks 3 and 6 to 9 that the plan fails; 0 if none.
+// The number of the first of the checks 3 and 6 to 9, with 13 right before 8, that the plan fails; 0 if none.
 pub fn refusal(plan: Plan) -> u8
-    ensures { λ s. ⌜ s ≡ refusalOf (numbers plan) ⌝ }
+    ensures is { λ s. ⌜ s ≡ refusalOf (numbers plan) ⌝ }
+    ensures typed { λ s. ⌜ (s ≡ 0 → Typed plan) ⌝ }
 {
     let head = head_refusal(plan);
     if head != 0 {

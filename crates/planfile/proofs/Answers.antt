@@ -1,27 +1,33 @@
 -- What a file that is read without a refusal has.
-use mathlib.Core.Path.{_≡_, refl, ap, _∙_}
+use mathlib.Core.Path.{_≡_, refl, ap, _∙_, subst}
 use mathlib.Core.Bool.{false}
 use mathlib.Core.List.{List}
-use Prim.Native.Nat.{ℕ}
+use Prim.Native.Nat.{ℕ, _≤_}
 use lib.IntN.{pos}
 use Rattle.whole.proofs.Entry.{entry-empty}
 use Rattle.little_endian.specs.LittleEndian.{Bytes}
-use Rattle.plan.specs.Held.{held, planFrom}
-use Rattle.plan.specs.Numbers.{numbers, meaning}
+use Rattle.plan.specs.Held.{PlainHeld, held, Typed, planFrom}
+use Rattle.plan.specs.Numbers.{Numbers, numbers, meaning}
 use Rattle.plan.specs.Refusal.{refusalOf, Accepted}
+use Rattle.plan.proofs.Held.{until-small}
 use Rattle.plan.proofs.Checks.{first-none, first-next, not-refused, answer-accepted, accepted}
 use Rattle.planfile.specs.declared.ReadAnswer.{ReadAnswer}
 use Rattle.planfile.specs.Checks.{shapeIn, layoutRefusal}
-use Rattle.planfile.specs.Records.{heldOf, heldIn, fileOf}
+use Rattle.planfile.specs.Records.{recordIn, heldOf, heldIn, fileOf}
 use Rattle.planfile.specs.Reading.{Laid}
 use Rattle.planfile.specs.Read.{numbersIn, readRefusal, readAnswer}
 use Rattle.planfile.proofs.Checks.{layout-laid}
-use Rattle.planfile.proofs.Trips.{file-again, held-read}
+use Rattle.planfile.proofs.Roles.{tidy-read}
+use Rattle.planfile.proofs.Trips.{file-again, held-read, typed-plan}
 
 -- a file without a kind 7 holds nothing for it
-pub unopened-none : (s : List ℕ) → shapeIn s .opened ≡ false → (k : ℕ) → numbersIn s .b k ≡ pos 0
+pub unopened-none : (s : List ℕ) → shapeIn s .opened ≡ false → (k : ℕ) → heldIn s .opening k ≡ pos 0
 unfolding heldIn heldOf
 unopened-none s e = rw e (entry-empty (pos 0) _)
+
+pub plain-unopened : (s : List ℕ) → PlainHeld (heldIn s) → shapeIn s .opened ≡ false
+unfolding heldIn heldOf
+plain-unopened s e = e .opened
 
 module _ (s : List ℕ) (e : readAnswer s .refusal ≡ 0) where
   none-refused : readRefusal s ≡ 0
@@ -55,6 +61,17 @@ module _ (s : List ℕ) (e : readAnswer s .refusal ≡ 0) where
   -- the file is that of its plan
   pub file-of-read : Bytes s → fileOf (held (readAnswer s .plan)) ≡ s
   file-of-read b = ap fileOf plan-holds ∙ file-again b laid-read
+
+  -- every T that it holds is one of a byte
+  pub until-read : (t : ℕ) → heldIn s .pattern t .until ≤ 30
+  unfolding heldIn
+  until-read t =
+      let few : numbersIn s .T t ≤ 30 = subst (λ (P : Numbers). P .T t ≤ 30) read-numbers (read-accepted .until-few t) in
+      until-small (tidy-read (shapeIn s) (laid-read .range) (recordIn s (shapeIn s)) .rates t) few
+
+  -- and its starts and steps have 32 bits
+  pub plan-typed : Bytes s → Typed (readAnswer s .plan)
+  plan-typed b = rw plan-read (typed-plan b (laid-read .range))
 
 -- what was answered as a, and is not refused, is an accepted plan
 pub accepted-read : (s : List ℕ) {a : ReadAnswer} → a ≡ readAnswer s → a .refusal ≡ 0 → Accepted (numbers (a .plan))

@@ -1,9 +1,10 @@
--- Document 01's case L, and its neighbours at the edges, computed from the definitions; and a file with money already invested.
+-- Document 01's case L, and its neighbours at the edges, computed from the definitions; a file with money already invested, and one with
+-- a slope and a list.
 use mathlib.Core.Path.{_≡_, refl}
 use mathlib.Core.Bool.{true, false}
 use mathlib.Core.List.{List, [], _∷_, _++_, map}
 use Prim.Native.Nat.{ℕ}
-use lib.IntN.{pos}
+use lib.IntN.{pos, negsuc}
 use lib.ListN.{replicate}
 use Rattle.whole.specs.Entry.{nth, cut, entry}
 use Rattle.whole.specs.Sum.{sumℕ}
@@ -15,8 +16,9 @@ use Rattle.little_endian.specs.Runs.{run, numberAt}
 use Rattle.records.specs.Record.{recordBytes, fileBytes}
 use Rattle.records.specs.Cursor.{wholeAt, wholeFrom, wholeFile, place, kindAt, bodyAt}
 use Rattle.plan.specs.Held.{instrumentsHeld, outflowsHeld, rolloverHeld, patternsHeld, allocationHeld, openingHeld, held, planFrom}
-use Rattle.plan.specs.Refusal.{shapeOk, headOk, paymentsFit, paymentsOk, outflowsOk, openingOk, amountsOk, rolloverOk, ratesFit, ratesOk, allocationOk, headRefusal, amountsRefusal, ratesRefusal, allocationRefusal, refusalOf}
-use Rattle.plan.specs.Case.{nearL, planL, renewed}
+use Rattle.plan.specs.Refusal.{shapeOk, headOk, paymentsFit, paymentsOk, outflowsOk, openingOk, amountsOk, rolloverOk, untilsOk, ratesFit, ratesOk, allocationOk, headRefusal, amountsRefusal, ratesRefusal, allocationRefusal, refusalOf}
+use Rattle.plan.specs.Numbers.{slope}
+use Rattle.plan.specs.Case.{nearL, planL, renewed, sloping}
 use Rattle.planfile.specs.Kinds.{roleOf, sizeOf}
 use Rattle.planfile.specs.Groups.{groupsOf, total, spotAt, placeOf, laid}
 use Rattle.planfile.specs.Rows.{instrumentIn, instrumentRec, patternIn, patternRec}
@@ -52,7 +54,7 @@ pub refused-near : map readRefusal (fileL ∷ fileOf (held (nearL 1_000_000 (pos
     ≡ 0 ∷ 0 ∷ 8 ∷ 7 ∷ []
 unfolding readRefusal layoutRefusal wholeFile wholeFrom wholeAt firstOk shapeIn shapeOk hasRole roleOk rolesOk sizeOk sizesOk roleOf sizeOf nth all
     total spotAt place kindAt bodyAt leAt leOf heldIn heldOf recordIn groupsOf placeOf instrumentIn patternIn entry cut numberAt signedOf
-    refusalOf headRefusal amountsRefusal ratesRefusal allocationRefusal headOk paymentsOk paymentsFit isBetween outflowsOk openingOk amountsOk rolloverOk ratesOk ratesFit allocationOk sumℕ
+    refusalOf headRefusal amountsRefusal ratesRefusal allocationRefusal headOk paymentsOk paymentsFit isBetween outflowsOk openingOk amountsOk rolloverOk untilsOk ratesOk ratesFit allocationOk sumℕ
     fileOf fileFrom fileBytes recordBytes laid table recordOf instrumentRec patternRec run bytesOf unsignedOf
     instrumentsHeld outflowsHeld rolloverHeld patternsHeld allocationHeld nearL fileL
 refused-near = refl
@@ -98,9 +100,73 @@ pub refused-renewed : map readRefusal
     ≡ 0 ∷ 4 ∷ 5 ∷ 6 ∷ []
 unfolding readRefusal layoutRefusal wholeFile wholeFrom wholeAt firstOk shapeIn shapeOk hasRole roleOk rolesOk sizeOk sizesOk roleOf sizeOf nth all
     total spotAt place kindAt bodyAt leAt leOf heldIn heldOf recordIn groupsOf placeOf instrumentIn patternIn entry cut numberAt signedOf
-    refusalOf headRefusal amountsRefusal ratesRefusal allocationRefusal headOk paymentsOk paymentsFit isBetween outflowsOk openingOk amountsOk rolloverOk ratesOk ratesFit allocationOk sumℕ
+    refusalOf headRefusal amountsRefusal ratesRefusal allocationRefusal headOk paymentsOk paymentsFit isBetween outflowsOk openingOk amountsOk rolloverOk untilsOk ratesOk ratesFit allocationOk sumℕ
     renewedBefore openingTwo renewedRollover renewedAfter
 refused-renewed = refl
+
+-- a plan of three years with a slope and a list: the records before the patterns', the slope's, the list's, and that after them
+unfoldable pub slopingBefore : List ℕ
+slopingBefore =
+    4 ∷ 0 ∷ 1 ∷ 0 ∷ 3 ∷ 1 ∷ 1 ∷ 2
+    ∷ 24 ∷ 0 ∷ 2 ∷ 0 ∷ 0 ∷ 126 ∷ 95 ∷ 64 ∷ (replicate 20 0
+    ++ (24 ∷ 0 ∷ 3 ∷ 0 ∷ replicate 24 0)
+    ++ (4 ∷ 0 ∷ 4 ∷ 0 ∷ 64 ∷ 66 ∷ 15 ∷ 0 ∷ []))
+
+-- from 65000 down by 2500 until year 2
+unfoldable pub slopeDown : List ℕ
+slopeDown = 9 ∷ 0 ∷ 8 ∷ 0 ∷ 232 ∷ 253 ∷ 0 ∷ 0 ∷ 60 ∷ 246 ∷ 255 ∷ 255 ∷ 2 ∷ []
+
+unfoldable pub slopingList : List ℕ
+slopingList = 8 ∷ 0 ∷ 5 ∷ 0 ∷ 96 ∷ 234 ∷ 0 ∷ 0 ∷ 144 ∷ 95 ∷ 1 ∷ 0 ∷ []
+
+unfoldable pub slopingAfter : List ℕ
+slopingAfter = 4 ∷ 0 ∷ 6 ∷ 0 ∷ 64 ∷ 66 ∷ 15 ∷ 0 ∷ []
+
+-- it is written with the kinds that it holds, whatever it carries for the others
+pub written-sloping : map (λ other. fileOf (held (sloping (pos 65_000) (negsuc 2_499) 2 other))) (0 ∷ 31 ∷ [])
+    ≡ (slopingBefore ++ slopeDown ++ slopingList ++ slopingAfter) ∷ (slopingBefore ++ slopeDown ++ slopingList ++ slopingAfter) ∷ []
+unfolding fileOf fileFrom fileBytes recordBytes groupsOf laid table recordOf instrumentRec patternRec nth run bytesOf unsignedOf
+    instrumentsHeld outflowsHeld rolloverHeld patternsHeld allocationHeld entry cut sloping slopingBefore slopeDown slopingList slopingAfter
+written-sloping = refl
+
+-- and read with the kinds that stand there, and with zeros for the others
+pub read-sloping : planFrom (heldIn (slopingBefore ++ slopeDown ++ slopingList ++ slopingAfter)) ≡ sloping (pos 65_000) (negsuc 2_499) 2 0
+unfolding planFrom heldIn heldOf shapeIn hasRole wholeAt roleOf nth recordIn groupsOf placeOf instrumentIn patternIn entry cut table numberAt signedOf
+    kindAt bodyAt place leAt leOf sloping slopingBefore slopeDown slopingList slopingAfter
+read-sloping = refl
+
+-- the two may be exchanged; a slope for the rollover is refused 4, one of eight bytes 5, and so is a list of nine; a T of 0 or of 31
+-- is refused 13
+pub refused-sloping : map readRefusal
+    ((slopingBefore ++ slopeDown ++ slopingList ++ slopingAfter)
+    ∷ (slopingBefore ++ slopingList ++ slopeDown ++ slopingAfter)
+    ∷ (renewedBefore ++ slopeDown ++ renewedAfter)
+    ∷ (slopingBefore ++ (8 ∷ 0 ∷ 8 ∷ 0 ∷ replicate 8 0) ++ slopingList ++ slopingAfter)
+    ∷ (slopingBefore ++ (9 ∷ 0 ∷ 5 ∷ 0 ∷ replicate 9 0) ++ slopingList ++ slopingAfter)
+    ∷ (slopingBefore ++ (9 ∷ 0 ∷ 8 ∷ 0 ∷ replicate 9 0) ++ slopingList ++ slopingAfter)
+    ∷ (slopingBefore ++ (9 ∷ 0 ∷ 8 ∷ 0 ∷ replicate 8 0 ++ 31 ∷ []) ++ slopingList ++ slopingAfter)
+    ∷ [])
+    ≡ 0 ∷ 0 ∷ 4 ∷ 5 ∷ 5 ∷ 13 ∷ 13 ∷ []
+unfolding readRefusal layoutRefusal wholeFile wholeFrom wholeAt firstOk shapeIn shapeOk hasRole roleOk rolesOk sizeOk sizesOk roleOf sizeOf nth all
+    total spotAt place kindAt bodyAt leAt leOf heldIn heldOf recordIn groupsOf placeOf instrumentIn patternIn entry cut numberAt signedOf
+    refusalOf headRefusal amountsRefusal ratesRefusal allocationRefusal headOk paymentsOk paymentsFit isBetween outflowsOk openingOk amountsOk rolloverOk untilsOk ratesOk ratesFit allocationOk sumℕ
+    slope renewedBefore renewedAfter slopingBefore slopeDown slopingList slopingAfter
+refused-sloping = refl
+
+-- a slope is taken that means 0 or 200,000 in its last year, whatever its start; one that means a rate past either end is refused 8
+pub refused-slopes : map (λ plan. readRefusal (fileOf (held plan)))
+    (sloping (pos 0) (pos 100_000) 3 0
+    ∷ sloping (pos 1) (pos 100_000) 3 0
+    ∷ sloping (pos 400_000) (negsuc 199_999) 30 0
+    ∷ sloping (pos 399_999) (negsuc 199_999) 30 0
+    ∷ [])
+    ≡ 0 ∷ 8 ∷ 0 ∷ 8 ∷ []
+unfolding readRefusal layoutRefusal wholeFile wholeFrom wholeAt firstOk shapeIn shapeOk hasRole roleOk rolesOk sizeOk sizesOk roleOf sizeOf nth all
+    total spotAt place kindAt bodyAt leAt leOf heldIn heldOf recordIn groupsOf placeOf instrumentIn patternIn entry cut numberAt signedOf
+    refusalOf headRefusal amountsRefusal ratesRefusal allocationRefusal headOk paymentsOk paymentsFit isBetween outflowsOk openingOk amountsOk rolloverOk untilsOk ratesOk ratesFit allocationOk sumℕ
+    fileOf fileFrom fileBytes recordBytes laid table recordOf instrumentRec patternRec run bytesOf unsignedOf
+    instrumentsHeld outflowsHeld rolloverHeld patternsHeld allocationHeld slope sloping
+refused-slopes = refl
 
 -- an empty file is refused 3, three bytes are refused 2
 pub refused-empty : readRefusal [] ≡ 3

@@ -1,19 +1,19 @@
 -- The laws of kinds: their roles, and how long their bodies are.
-use mathlib.Core.Path.{_≡_, sym, ap, _∙_}
-use mathlib.Core.Bool.{Bool, true}
+use mathlib.Core.Path.{_≡_, refl, sym, ap, _∙_}
+use mathlib.Core.Bool.{Bool, true, false}
 use mathlib.Core.Logic.{⊎-elim}
 use mathlib.Core.List.{List, [], _∷_}
 use Prim.Native.Nat.{ℕ, zero, suc, _+_, _≤_, _<_}
 use native.Mathlib.Omega.{arith}
 use borrow.Author.Needs.{needs}
-use borrow.Author.Tests.{eqb-true, eq-eqb}
+use borrow.Author.Tests.{eqb-true, eq-eqb, ne-eqb}
 use lib.Dec.{eqb}
 use lib.ListN.{length, getD}
 use Rattle.whole.specs.Entry.{nth}
 use Rattle.whole.specs.Test.{pick, all}
 use Rattle.whole.proofs.Entry.{nth-outside}
 use Rattle.whole.proofs.Laws.{ℕ-cases}
-use Rattle.whole.proofs.Test.{all-at}
+use Rattle.whole.proofs.Test.{all-at, false-true}
 use Rattle.plan.specs.declared.Shape.{Shape}
 use Rattle.planfile.specs.Kinds.{roles, roleOf, sizes, sizeOf}
 use Rattle.planfile.specs.Reading.{InRange}
@@ -59,6 +59,22 @@ Lone role = all (suc (length roles)) (λ k. pick (eqb (roleOf k) role) (eqb k ro
 
 pub lone : (role : ℕ) → 0 < role → Lone role → {kind : ℕ} → roleOf kind ≡ role → kind ≡ role
 lone role some e {kind} r = eqb-true kind role (role-only role (λ k. eqb k role) some e kind r)
+
+-- a role of two kinds: that whose number it is, and another
+abbrev pub Paired : (role other : ℕ) → Type 0
+Paired role other = all (suc (length roles)) (λ k. pick (eqb (roleOf k) role) (eqb k (pick (eqb k other) other role)) true) ≡ true
+
+pub paired : (role other : ℕ) → 0 < role → Paired role other → {kind : ℕ} → roleOf kind ≡ role → kind ≡ pick (eqb kind other) other role
+paired role other some e {kind} r =
+    eqb-true kind (pick (eqb kind other) other role) (role-only role (λ k. eqb k (pick (eqb k other) other role)) some e kind r)
+
+-- where a kind of the role can only be the role itself, the test of the one is that of the other
+pub role-kind : (role kind : ℕ) → roleOf role ≡ role → (roleOf kind ≡ role → kind ≡ role) → eqb (roleOf kind) role ≡ eqb kind role
+role-kind role kind own only = go (eqb (roleOf kind) role) refl
+  where
+    go : (b : Bool) → eqb (roleOf kind) role ≡ b → b ≡ eqb kind role
+    go true e = sym (eq-eqb kind role (only (eqb-true (roleOf kind) role e)))
+    go false e = sym (ne-eqb kind role (λ i. false-true (sym e ∙ eq-eqb (roleOf kind) role (ap roleOf i ∙ own))))
 
 -- ---- the length of a body
 -- what holds of every size, one after the other, holds of the size of every kind

@@ -1,21 +1,30 @@
--- A file in which no kind 7 stands where it may is one of document 01: a group of no records plays no part.
-use mathlib.Core.Path.{_≡_, sym, ap, ap₂, _∙_, fun-ext}
+-- A file that holds no money already invested and no slope is one of document 01: a group of no records plays no part, and a role of
+-- which only one kind stands is that kind.
+use mathlib.Core.Path.{_≡_, refl, sym, ap, ap₂, _∙_, subst, fun-ext}
 use mathlib.Core.Bool.{Bool, false}
 use mathlib.Core.List.{List, [], _∷_, _++_}
-use Prim.Native.Nat.{ℕ, _+_, _-_}
+use Prim.Native.Nat.{ℕ, _+_, _-_, _<_}
 use native.Mathlib.Omega.{arith}
 use borrow.Author.Tests.{ne-eqb}
 use lib.Dec.{ltb, eqb}
 use lib.ListN.{length}
+use Rattle.whole.specs.Entry.{nth}
 use Rattle.whole.specs.Test.{pick, both, all}
-use Rattle.records.specs.Cursor.{place}
+use Rattle.whole.proofs.Entry.{entry-at}
+use Rattle.whole.proofs.Test.{all-cong}
+use Rattle.records.specs.Cursor.{wholeAt, place, kindAt}
 use Rattle.plan.specs.declared.Shape.{Shape}
+use Rattle.plan.specs.Held.{HeldPattern, PlainHeld, unheldPattern}
 use Rattle.planfile.specs.declared.Group.{Group}
 use Rattle.planfile.specs.declared.Spot.{Spot}
-use Rattle.planfile.specs.Groups.{many, one, groupsOf, total, spotAt, placeOf}
+use Rattle.planfile.specs.Kinds.{roleOf}
+use Rattle.planfile.specs.Groups.{many, one, groupsOf, total, spotAt, countOf, placeOf}
+use Rattle.planfile.specs.Rows.{patternIn}
 use Rattle.planfile.specs.Checks.{shapeIn, hasRole, roleOk, rolesOk, sizeOk, sizesOk}
-use Rattle.planfile.specs.Plain.{groupsPlain, PlainFile}
-use Rattle.planfile.proofs.Groups.{spot-past}
+use Rattle.planfile.specs.Records.{recordIn, heldOf, heldIn}
+use Rattle.planfile.specs.Plain.{groupsPlain, PlainFile, kindsPlain, PlainKinds}
+use Rattle.planfile.proofs.Kind.{Lone, lone, paired, role-kind}
+use Rattle.planfile.proofs.Groups.{spot-past, _▸_, each-role, spot-back}
 
 -- ---- a group of none, between others
 module _ (r : ℕ) (hs : List Group) where
@@ -54,19 +63,70 @@ module _ (h : Shape) (e : h .opened ≡ false) where
   unfolding groupsOf groupsPlain
   same-place role j n = rw e (place-skip 7 after before role j n)
 
--- groups with the same records pass the same checks
-same-roles : (s : List ℕ) (gs hs : List Group) → total gs ≡ total hs → ((t : ℕ) → spotAt gs t ≡ spotAt hs t) → rolesOk s gs ≡ rolesOk s hs
-unfolding rolesOk roleOk
-same-roles s gs hs count spots =
+-- groups with the same records pass the same test of each record by its role
+same-test : (s : List ℕ) (test : (t role : ℕ) → Bool) (gs hs : List Group) → total gs ≡ total hs → ((t : ℕ) → spotAt gs t ≡ spotAt hs t)
+    → both (all (total gs) (λ t. test t (spotAt gs t .role))) (eqb (place s (total gs)) (length s))
+    ≡ both (all (total hs) (λ t. test t (spotAt hs t .role))) (eqb (place s (total hs)) (length s))
+same-test s test gs hs count spots =
     ap₂ (λ (n : ℕ) (ok : ℕ → Bool). both (all n ok) (eqb (place s n) (length s))) count
-    (fun-ext (λ t. ap (λ (spot : Spot). hasRole s t (spot .role)) (spots t)))
+    (fun-ext (λ t. ap (λ (spot : Spot). test t (spot .role)) (spots t)))
 
 pub plain-file : (s : List ℕ) → shapeIn s .opened ≡ false → PlainFile s
-unfolding sizesOk
+unfolding rolesOk roleOk sizesOk
 plain-file s e =
     let h = shapeIn s in
     record {
-      kinds = same-roles s (groupsOf h) (groupsPlain h) (same-total h e) (same-spot h e);
+      kinds = same-test s (hasRole s) (groupsOf h) (groupsPlain h) (same-total h e) (same-spot h e);
       sizes = ap (λ (n : ℕ). all n (sizeOk s h)) (same-total h e);
       places = same-place h e;
     }
+
+-- ---- where no pattern is a slope, a record's role is its kind
+module _ (s : List ℕ) (plain : PlainHeld (heldIn s)) where
+  abbrev h : Shape
+  h = shapeIn s
+
+  abbrev at : (role j : ℕ) → ℕ
+  at = placeOf (groupsOf h)
+
+  abbrev kind : (role j : ℕ) → ℕ
+  kind role j = kindAt s (at role j)
+
+  no-slope : (j : ℕ) → j < h .patterns → eqb (kind 5 j) 8 ≡ false
+  unfolding heldIn heldOf recordIn patternIn
+  no-slope j l = sym (ap (λ (i : HeldPattern). i .sloped) (entry-at unheldPattern (h .patterns) _ j l)) ∙ plain .sloped (1 + j)
+
+  lone-kind : (role j : ℕ) → 0 < role → roleOf role ≡ role → Lone role → eqb (roleOf (kind role j)) role ≡ eqb (kind role j) role
+  lone-kind role j some own e = role-kind role (kind role j) own (lone role some e)
+
+  kind-of-role : (role j : ℕ) → j < countOf (groupsOf h) role → eqb (roleOf (kind role j)) role ≡ eqb (kind role j) role
+  unfolding groupsOf roleOf nth all
+  kind-of-role =
+      each-role (groupsOf h) (λ role j. eqb (roleOf (kind role j)) role ≡ eqb (kind role j) role) (
+      (λ j l. lone-kind 1 j (omega arith) refl refl)
+      ▸ (λ j l. lone-kind 2 j (omega arith) refl refl)
+      ▸ (λ j l. lone-kind 3 j (omega arith) refl refl)
+      ▸ (λ j l. lone-kind 7 j (omega arith) refl refl)
+      ▸ (λ j l. lone-kind 4 j (omega arith) refl refl)
+      ▸ (λ j l. role-kind 5 (kind 5 j) refl (λ r. paired 5 8 (omega arith) refl r ∙ rw (no-slope j l)))
+      ▸ (λ j l. lone-kind 6 j (omega arith) refl refl)
+      ▸ tt)
+
+  kinds-of-roles : rolesOk s (groupsOf h) ≡ kindsPlain s (groupsOf h)
+  unfolding rolesOk roleOk hasRole kindsPlain
+  kinds-of-roles =
+      let gs = groupsOf h in
+      ap (λ (ok : Bool). both ok (eqb (place s (total gs)) (length s)))
+      (all-cong (total gs) _ _ (λ t l.
+      let b = spot-back h t l in
+      let spot = spotAt gs t in
+      ap (both (wholeAt s (place s t)))
+      (subst (λ (u : ℕ). eqb (roleOf (kindAt s u)) (spot .role) ≡ eqb (kindAt s u) (spot .role)) (b .place)
+      (kind-of-role (spot .role) (spot .index) (b .index)))))
+
+  pub plain-kinds : PlainKinds s
+  unfolding kindsPlain heldIn heldOf
+  plain-kinds =
+      let e : h .opened ≡ false = plain .opened in
+      let test : (t role : ℕ) → Bool = λ t role. both (wholeAt s (place s t)) (eqb (kindAt s t) role) in
+      record { kinds = kinds-of-roles ∙ same-test s test (groupsOf h) (groupsPlain h) (same-total h e) (same-spot h e) }

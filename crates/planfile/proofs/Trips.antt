@@ -14,7 +14,7 @@ use Rattle.records.specs.Record.{fileBytes}
 use Rattle.records.specs.Cursor.{sizeFrom, place, kindAt, bodyAt}
 use Rattle.records.proofs.Cursor.{whole-end, length-body, bytes-body}
 use Rattle.plan.specs.declared.Shape.{Shape}
-use Rattle.plan.specs.Held.{Held, held, planFrom}
+use Rattle.plan.specs.Held.{Held, held, Typed, planFrom}
 use Rattle.plan.specs.Refusal.{shapeOk}
 use Rattle.plan.proofs.Held.{Tidy, held-from}
 use Rattle.planfile.specs.Kinds.{roleOf, sizeOf}
@@ -28,7 +28,7 @@ use Rattle.planfile.proofs.Groups.{laid-cong}
 use Rattle.planfile.proofs.Checks.{roles-consist}
 use Rattle.planfile.proofs.Filed.{whole-written, roles-written, sizes-written, record-written, first-written, suits-read, written-again}
 use Rattle.planfile.proofs.Length.{length-written}
-use Rattle.planfile.proofs.Roles.{suits-held, shape-held, records-again, tidy-read, Fits, held-again}
+use Rattle.planfile.proofs.Roles.{suits-held, shape-held, records-again, tidy-read, typed-read, Fits, held-again}
 
 -- ---- a file that has passed checks 3 to 5
 module _ {s : List ℕ} (b : Bytes s) (l : Laid s (shapeIn s)) where
@@ -55,6 +55,11 @@ module _ {s : List ℕ} (b : Bytes s) (l : Laid s (shapeIn s)) where
 pub held-read : (s : List ℕ) → InRange (shapeIn s) → held (planFrom (heldIn s)) ≡ heldIn s
 unfolding heldIn
 held-read s r = held-from (heldIn s) (tidy-read (shapeIn s) r (recordIn s (shapeIn s)))
+
+-- and its starts and steps have 32 bits
+pub typed-plan : {s : List ℕ} → Bytes s → InRange (shapeIn s) → Typed (planFrom (heldIn s))
+unfolding heldIn recordIn
+typed-plan {s} b r = typed-read (shapeIn s) r (recordIn s (shapeIn s)) (λ role j. bytes-body s (placeOf (groupsOf (shapeIn s)) role j) b)
 
 -- ---- the file of what is held
 module _ (H : Held) (range : InRange (H .shape)) where

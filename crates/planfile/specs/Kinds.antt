@@ -1,4 +1,5 @@
--- Each kind of record: its role and the length of its body (document 01, "Plan file"; kind 7: document 02, item 1), from kind 1 on.
+-- Each kind of record: its role and the length of its body (document 01, "Plan file"; kinds 7 and 8: document 02, items 1 and 2), from
+-- kind 1 on.
 use mathlib.Core.List.{List, [], _∷_}
 use Prim.Native.Nat.{ℕ, _*_, _-_}
 use Rattle.whole.specs.Entry.{nth}
@@ -14,6 +15,7 @@ roles =
     ∷ 5
     ∷ 6
     ∷ 7
+    ∷ 5
     ∷ []
 
 -- the role of a kind; 0 where the number is no kind
@@ -30,6 +32,7 @@ sizes h =
     ∷ 4 * (h .years - 1)
     ∷ 4 * h .instruments
     ∷ 8 * h .years
+    ∷ 9
     ∷ []
 
 -- those of one kind

@@ -1,4 +1,4 @@
--- What any bytes s are read as (document 01, "Checking order", 1 to 9).
+-- What any bytes s are read as (document 01, "Checking order", 1 to 9, with document 02's 13 right before 8).
 use mathlib.Core.List.{List}
 use Prim.Native.Nat.{ℕ}
 use Rattle.plan.specs.Held.{noPlan, planFrom}
@@ -13,7 +13,7 @@ module _ (s : List ℕ) where
   abbrev pub numbersIn : Numbers
   numbersIn = meaning (heldIn s)
 
-  -- the number of the first check that fails; 0 if none does: 1 to 5 on the records, then 6 to 9 on what they mean
+  -- the number of the first check that fails; 0 if none does: 1 to 5 on the records, then 6 to 9 and 13 on what they mean
   unfoldable pub readRefusal : ℕ
   readRefusal = firstOf (layoutRefusal s) (refusalOf numbersIn)
 

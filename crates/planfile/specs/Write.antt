@@ -1,4 +1,5 @@
--- What a plan is written as: the one file that is read as it (document 01, "Checking order", 3, 6 to 9 and 12).
+-- What a plan is written as: the one file that is read as it (document 01, "Checking order", 3, 6 to 9 and 12, with document 02's 13
+-- right before 8).
 use mathlib.Core.List.{List}
 use Prim.Native.Nat.{ℕ}
 use lib.Dec.{leb}
@@ -12,7 +13,7 @@ use Rattle.planfile.specs.declared.WriteAnswer.{WriteAnswer}
 use Rattle.planfile.specs.Records.{fileOf}
 
 module _ (plan : Plan) (buffer : List ℕ) where
-  -- 3 and 6 to 9, then 12: the buffer is shorter than the file
+  -- 3, 6 to 9 and 13, then 12: the buffer is shorter than the file
   unfoldable pub writeRefusal : ℕ
   writeRefusal = firstOf (refusalOf (numbers plan)) (check (leb (length (fileOf (held plan))) (length buffer)) 12 0)
 

@@ -46,7 +46,8 @@ pub fn role_of(kind: usize) -> usize
         5 => 5,
         6 => 6,
         7 => 7,
-        8.. => 0, // and no kind
+        8 => 5,
+        9.. => 0, // and no kind
     }
 }
 
@@ -64,7 +65,8 @@ pub fn size_of(shape: Shape, kind: usize) -> usize
         5 => 4 * (shape.years - 1),
         6 => 4 * shape.instruments,
         7 => 8 * shape.years,
-        8.. => 0,
+        8 => 9,
+        9.. => 0,
     }
 }
 

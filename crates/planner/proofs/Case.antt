@@ -1,4 +1,5 @@
--- The starred cases of document 01, computed: one joint result over their list, and another over those of money already invested.
+-- The starred cases of document 01, computed: one joint result over their list, and one each over those of money already invested and
+-- of slopes.
 use mathlib.Core.Path.{_≡_, refl}
 use mathlib.Core.Bool.{true}
 use mathlib.Core.List.{List·Memᴰ}
@@ -6,7 +7,7 @@ use Rattle.whole.specs.Floor.{floor, shareOf}
 use Rattle.whole.specs.Sum.{sum, sumℕ, largest}
 use Rattle.whole.specs.Course.{course, history}
 use Rattle.whole.specs.Entry.{nth, cut, entry}
-use Rattle.whole.specs.Test.{isBetween, isSame}
+use Rattle.whole.specs.Test.{all, isBetween, isSame}
 use Rattle.whole.specs.Case.{Case, agree, shareCases}
 use Rattle.whole.proofs.Case.{agree-at, agree-join, shares-agree}
 use Rattle.reckoning.specs.Reckoning.{w, paid, flow, sent, alpha-step, alpha, fund}
@@ -15,10 +16,12 @@ use Rattle.reckoning.specs.Bound.{h, ceiling, G, B}
 use Rattle.reckoning.specs.Case.{boundCases, gammaCases}
 use Rattle.reckoning.proofs.Case.{bounds-agree, gammas-agree}
 use Rattle.plan.specs.Held.{instrumentsHeld, outflowsHeld, rolloverHeld, patternsHeld, allocationHeld, openingHeld}
-use Rattle.plan.specs.Case.{nearL, planL, renewed, oneYear}
+use Rattle.plan.specs.Numbers.{slope}
+use Rattle.plan.specs.Refusal.{headOk, paymentsOk, paymentsFit, outflowsOk, openingOk, amountsOk, rolloverOk, untilsOk, ratesOk, ratesFit, allocationOk, headRefusal, amountsRefusal, ratesRefusal, allocationRefusal, refusalOf}
+use Rattle.plan.specs.Case.{nearL, planL, renewed, oneYear, fourYears}
 use Rattle.planner.specs.Calls.{flowOf, exactFlowOf, fundAt, boundAt, constantAt}
 use Rattle.planner.specs.Verdict.{wordOf, wordAt, fundOf, patternWord}
-use Rattle.planner.specs.Case.{fundCases, wordCases, starredCases, openingCases}
+use Rattle.planner.specs.Case.{fundCases, wordCases, starredCases, openingCases, slopeCases, slopeRefusals}
 
 funds-agree : agree fundCases ≡ true
 unfolding agree fundCases isSame isBetween fundOf fundAt flowOf instrumentsHeld outflowsHeld rolloverHeld patternsHeld allocationHeld openingHeld fund alpha alpha-step sent flow paid w floor
@@ -49,3 +52,20 @@ openings-agree = refl
 -- and in those of money already invested
 pub opening-stated : (c : Case) → List·Memᴰ c openingCases → c .given ≡ c .stated
 opening-stated c = agree-at openingCases c openings-agree
+
+slopes-agree : agree slopeCases ≡ true
+unfolding agree slopeCases isSame isBetween fundOf fundAt flowOf instrumentsHeld outflowsHeld rolloverHeld patternsHeld allocationHeld openingHeld slope fund alpha alpha-step sent flow
+    paid w floor shareOf sum sumℕ course history nth cut entry fourYears
+slopes-agree = refl
+
+slope-refusals-agree : agree slopeRefusals ≡ true
+unfolding agree slopeRefusals isSame isBetween all instrumentsHeld outflowsHeld rolloverHeld patternsHeld allocationHeld openingHeld slope refusalOf headRefusal amountsRefusal
+    ratesRefusal allocationRefusal headOk paymentsOk paymentsFit outflowsOk openingOk amountsOk rolloverOk untilsOk ratesOk ratesFit allocationOk sumℕ nth cut entry fourYears
+slope-refusals-agree = refl
+
+-- and in those of slopes
+pub slope-stated : (c : Case) → List·Memᴰ c slopeCases → c .given ≡ c .stated
+slope-stated c = agree-at slopeCases c slopes-agree
+
+pub slope-refused : (c : Case) → List·Memᴰ c slopeRefusals → c .given ≡ c .stated
+slope-refused c = agree-at slopeRefusals c slope-refusals-agree

@@ -21,6 +21,7 @@ use Rattle.reckoning.specs.Theorem.{Given, FromBelow, noneNegative, Close}
 use Rattle.reckoning.specs.declared.Reckoned.{Reckoned}
 use Rattle.reckoning.proofs.Pattern.{shares-le}
 use Rattle.reckoning.proofs.Theorem.{fund-close, form-close, amounts-close, flow-floors, H-parts, exactly-solvent, exactly-short}
+use Rattle.plan.specs.Held.{PlainHeld, held}
 use Rattle.plan.specs.Numbers.{Numbers, numbers}
 use Rattle.plan.specs.Refusal.{refusalOf, Accepted}
 use Rattle.plan.specs.declared.Plan.{Plan}
@@ -65,14 +66,16 @@ use Rattle.planner.specs.Verdict.{
   verdictAnswer,
 }
 use Rattle.planner.specs.Demand3.{FundNear, FormNear, ShortPattern, VerdictTrue}
-use Rattle.planner.specs.Plain.{Plain}
+use Rattle.planner.specs.Plain.{PlainFlow, Plain}
+use Rattle.planner.specs.Alike.{Alike}
 use Rattle.planner.specs.declared.FormAnswer.{FormAnswer}
 use Rattle.planner.specs.declared.VerdictAnswer.{VerdictAnswer}
 use Rattle.planner.proofs.Held.{terms, rollover-held}
 use Rattle.planner.proofs.Answers.{refused-none, called, reckoned-is}
 use Rattle.planner.proofs.Bits.{Lowest, bits-lowest}
 use Rattle.planner.proofs.VerdictLaws.{verdictBy, word-solvent, word-short, plan-solvent, plan-short}
-use Rattle.planner.proofs.Plain.{plain-plan}
+use Rattle.planner.proofs.Plain.{flow-plan, plain-plan}
+use Rattle.planner.proofs.Alike.{alike}
 
 module _ (plan : Plan) (t : ℕ) where
   abbrev P : Numbers
@@ -224,5 +227,5 @@ module _ (plan : Plan) where
     plan-short = some-short;
   }
 
-  pub verdict-answered : {s : VerdictAnswer} → s ≡ verdictAnswer (numbers plan) → (s ≡ verdictAnswer (numbers plan)) × (VerdictTrue (numbers plan) s × (plan .opened ≡ false → Plain (numbers plan)))
-  verdict-answered e = (e, (subst (VerdictTrue (numbers plan)) (sym e) verdict-true, plain-plan plan))
+  pub verdict-answered : {s : VerdictAnswer} → s ≡ verdictAnswer (numbers plan) → (s ≡ verdictAnswer (numbers plan)) × (VerdictTrue (numbers plan) s × ((plan .opened ≡ false → PlainFlow (numbers plan)) × ((PlainHeld (held plan) → Plain (held plan)) × Alike (held plan))))
+  verdict-answered e = (e, (subst (VerdictTrue (numbers plan)) (sym e) verdict-true, (flow-plan plan, (plain-plan plan, alike (held plan)))))

@@ -23,10 +23,10 @@ use Rattle.whole.proofs.Entry.{entry-in, entry-past, entry-zero, entry-beyond, 
 use Rattle.reckoning.specs.Reckoning.{paid, flow}
 use Rattle.reckoning.specs.Arrays.{sharesOf, ratesOf, amountsOf, Years, Terms, Rates, Amounts, weightsOf, Ready, fundReckoned}
 use Rattle.plan.specs.Held.{HeldInstrument, unheldInstrument, patternHeld, patternAt, allocationHeld, held}
-use Rattle.plan.specs.Numbers.{Numbers, ratesMeant, numbers}
+use Rattle.plan.specs.Numbers.{Numbers, rateIn, ratesMeant, numbers}
 use Rattle.plan.specs.Refusal.{most, Accepted}
 use Rattle.plan.specs.declared.Plan.{Plan}
-use Rattle.plan.proofs.Held.{payment-before, payment-past, outflow-before, outflow-past, opening-before, opening-past, rollover-before, allocation-is, pattern-is, pattern-each, tidy-held}
+use Rattle.plan.proofs.Held.{payment-before, payment-past, outflow-before, outflow-past, opening-before, opening-past, rollover-before, allocation-is, rate-is, tidy-held}
 use Rattle.planner.specs.Calls.{Shared, sharedOf, flowOf, flowReckoned}
 use Rattle.planner.specs.Arrays.{rolloverArray, ratesArray, constantArray, paymentsRow, paymentsRows, commonOf, sharedIn, flowArray, Prepared}
 use Rattle.planner.specs.declared.Common.{Common}
@@ -73,7 +73,7 @@ entry-of g z n f (suc j) = ⊎-elim
 -- the rates that a pattern means
 pub rates-array : (plan : Plan) (t : ℕ) → t < plan .patterns → ratesMeant (plan .years) (patternHeld (plan .years) (patternAt plan t)) ≡ ratesArray (numbers plan) (1 + t)
 unfolding ratesArray
-rates-array plan t h = ap (ratesMeant (plan .years)) (sym (pattern-is plan t h))
+rates-array plan t h = table-cong 30 (plan .years - 1) _ _ (pos 0) (λ l k. sym (rate-is plan t l h k))
 
 module _ (plan : Plan) (ok : Accepted (numbers plan)) where
   abbrev P : Numbers
@@ -93,13 +93,12 @@ module _ (plan : Plan) (ok : Accepted (numbers plan)) where
   rates-held : (t : ℕ) → ratesOf (ratesArray P t) ≡ P .i t
   unfolding ratesOf ratesArray
   rates-held t =
-      let rate : ℕ → ℤ = held plan .pattern t .rate in
+      let n = plan .years - 1 in
+      let rate : ℕ → ℤ = entry (pos 0) n (rateIn (held plan .pattern t)) in
       let same : (l : ℕ) → 2 + l - 1 ≡ 1 + l = λ l. omega arith in
-      let none = pattern-each plan (λ i. i .rate 0 ≡ pos 0) refl (λ t h. entry-zero (pos 0) (plan .years - 1) _) t in
-      let past : (l : ℕ) → plan .years - 1 < l → rate l ≡ pos 0 = λ l b. pattern-each plan (λ i. i .rate l ≡ pos 0) refl (λ t h. entry-beyond (pos 0) (plan .years - 1) _ l b) t in
       fun-ext (λ l.
-      ap (λ (v : List ℤ). nth (pos 0) v (l - 1)) (table-cong 30 (plan .years - 1) _ (λ l. rate (1 + l)) (pos 0) (λ l b. ap rate (same l)))
-      ∙ table-held (pos 0) rate {m = 30} (omega (arith, ok .head .years-few)) none past (l - 1))
+      ap (λ (v : List ℤ). nth (pos 0) v (l - 1)) (table-cong 30 n _ (λ l. rate (1 + l)) (pos 0) (λ l b. ap rate (same l)))
+      ∙ table-held (pos 0) rate {m = 30} (omega (arith, ok .head .years-few)) (entry-zero (pos 0) n _) (entry-beyond (pos 0) n _) (l - 1))
 
   constant-held : amountsOf (constantArray P) ≡ sharedOf P .constantFlow
   unfolding amountsOf constantArray

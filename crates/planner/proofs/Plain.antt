@@ -1,4 +1,4 @@
--- A plan without money already invested is one of document 01.
+-- A plan without money already invested and without slopes is one of document 01.
 use mathlib.Core.Path.{_≡_, refl, ap, _∙_, fun-ext}
 use mathlib.Core.Bool.{Bool, true, false}
 use Prim.Native.Nat.{ℕ}
@@ -11,17 +11,18 @@ use Rattle.whole.proofs.Solver.{ !, _≈_, ring}
 use Rattle.whole.proofs.Test.{both-yes}
 use Rattle.reckoning.specs.Reckoning.{paid, flow}
 use Rattle.reckoning.specs.Exact.{x}
-use Rattle.plan.specs.Numbers.{Numbers, numbers}
-use Rattle.plan.specs.Refusal.{check, firstOf, headOk, paymentsOk, outflowsOk, amountsOk, rolloverOk, ratesOk, allocationOk, headRefusal, amountsRefusal, ratesRefusal, allocationRefusal, refusalOf}
+use Rattle.plan.specs.Held.{Held, PlainHeld, held}
+use Rattle.plan.specs.Numbers.{Numbers, meaning, numbers}
+use Rattle.plan.specs.Refusal.{check, firstOf, headOk, paymentsOk, outflowsOk, amountsOk, rolloverOk, untilsOk, ratesOk, allocationOk, headRefusal, amountsRefusal, ratesRefusal, allocationRefusal, refusalOf}
 use Rattle.plan.specs.declared.Plan.{Plan}
-use Rattle.plan.proofs.Held.{opening-none}
-use Rattle.plan.proofs.Checks.{opening-passes}
+use Rattle.plan.proofs.Held.{rate-at, opening-none}
+use Rattle.plan.proofs.Checks.{opening-passes, untils-none}
 use Rattle.planner.specs.Calls.{sharedOf, flowOf, exactFlowOf}
-use Rattle.planner.specs.Plain.{refusalPlain, sharedPlain, Plain}
+use Rattle.planner.specs.Plain.{refusalPlain, sharedPlain, PlainFlow, Plain}
 
--- the checks in their parts are the checks one after the other
+-- the checks in their parts are the checks one after the other; 13 is passed
 checks-join : (a b c d e : Bool)
-    → firstOf (check a 3 0) (firstOf (check b 6 (check c 7 0)) (firstOf (check d 8 0) (check e 9 0))) ≡ check a 3 (check b 6 (check c 7 (check d 8 (check e 9 0))))
+    → firstOf (check a 3 0) (firstOf (check b 6 (check c 7 0)) (firstOf (check true 13 (check d 8 0)) (check e 9 0))) ≡ check a 3 (check b 6 (check c 7 (check d 8 (check e 9 0))))
 checks-join false b c d e = refl
 checks-join true false c d e = refl
 checks-join true true false d e = refl
@@ -34,10 +35,11 @@ module _ (P : Numbers) (none : (k : ℕ) → P .b k ≡ pos 0) where
   unfolding amountsOk
   same-amounts = rw (opening-passes P none) (ap (both (paymentsOk P)) (both-yes (outflowsOk P)))
 
-  same-refusal : refusalOf P ≡ refusalPlain P
+  -- and no T is looked at
+  same-refusal : untilsOk P ≡ true → refusalOf P ≡ refusalPlain P
   unfolding refusalOf headRefusal amountsRefusal ratesRefusal allocationRefusal refusalPlain
-  same-refusal = checks-join (headOk P) (amountsOk P) (rolloverOk P) (ratesOk P) (allocationOk P)
-      ∙ ap (λ (six : Bool). check (headOk P) 3 (check six 6 (check (rolloverOk P) 7 (check (ratesOk P) 8 (check (allocationOk P) 9 0))))) same-amounts
+  same-refusal passed = rw passed (checks-join (headOk P) (amountsOk P) (rolloverOk P) (ratesOk P) (allocationOk P)
+      ∙ ap (λ (six : Bool). check (headOk P) 3 (check six 6 (check (rolloverOk P) 7 (check (ratesOk P) 8 (check (allocationOk P) 9 0))))) same-amounts)
 
   same-constant : (k : ℕ) → sharedOf P .constantFlow k ≡ negℤ (P .o k)
   same-constant k = rw (none k) (ring 1 (λ o. ! (pos 0) ⊖ o ≈ ⊝ o) refl (P .o k))
@@ -55,8 +57,17 @@ module _ (P : Numbers) (none : (k : ℕ) → P .b k ≡ pos 0) where
   unfolding exactFlowOf x
   same-exact k = rw (none k) (ring 3 (λ f m o. f ⊕ m ⊗ (! (pos 0) ⊖ o) ≈ f ⊖ m ⊗ o) refl (paid (P .instruments) (P .a) (P .p) k) (pos million) (P .o k))
 
-  pub plain-numbers : Plain P
-  plain-numbers = record { refusal = same-refusal; shared = same-shared; flow = fun-ext same-flow; exact = fun-ext same-exact }
+  pub plain-flow : PlainFlow P
+  plain-flow = record { amounts = same-amounts; shared = same-shared; flow = fun-ext same-flow; exact = fun-ext same-exact }
 
-pub plain-plan : (plan : Plan) → plan .opened ≡ false → Plain (numbers plan)
-plain-plan plan e = plain-numbers (numbers plan) (opening-none plan e)
+pub plain-held : (H : Held) → PlainHeld H → ((k : ℕ) → H .opening k ≡ pos 0) → Plain H
+plain-held H e none = record {
+  refusal = same-refusal (meaning H) none (untils-none H (e .sloped));
+  rates = λ t l h. rate-at (H .shape .years) (H .pattern t) l h ∙ rw (e .sloped t);
+}
+
+pub flow-plan : (plan : Plan) → plan .opened ≡ false → PlainFlow (numbers plan)
+flow-plan plan e = plain-flow (numbers plan) (opening-none plan e)
+
+pub plain-plan : (plan : Plan) → PlainHeld (held plan) → Plain (held plan)
+plain-plan plan e = plain-held (held plan) e (opening-none plan (e .opened))

@@ -108,7 +108,7 @@ module _ (S : Shared) where
 
 -- ---- the answers
 module _ (P : Numbers) (t : ℕ) where
-  -- checks 3 and 6 to 9, then 10: every call on one pattern
+  -- checks 3 and 6 to 9, with 13 right before 8, then 10: every call on one pattern
   unfoldable pub callRefusal : ℕ
   callRefusal = firstOf (refusalOf P) (check (isFrom 1 (P .patterns) t) 10 0)
 

@@ -77,7 +77,7 @@ module _ (P : Numbers) where
   unfoldable pub rowOf : (t : ℕ) → PatternRow
   rowOf t = rowAt (sharedOf P) (P .i t)
 
-  -- the verdict's checks: 3 and 6 to 9, then 11 in every pattern
+  -- the verdict's checks: 3 and 6 to 9, with 13 right before 8, then 11 in every pattern
   unfoldable pub verdictRefusal : ℕ
   verdictRefusal = firstOf (refusalOf P) (check (all (P .patterns) (λ t. rowFits (sharedOf P) (P .i (1 + t)))) 11 0)
 

@@ -13,6 +13,7 @@ ghost use Rattle.whole.specs.Range.{limit, Between, Within};
 ghost use Rattle.whole.specs.Sum.{sum};
 ghost use Rattle.whole.specs.Test.{pick};
 ghost use Rattle.reckoning.specs.Arrays.{sharesOf, ratesOf, amountsOf, Years, Rates, Amounts, Ready, fundReckoned};
+ghost use Rattle.plan.specs.Held.{PlainHeld, held};
 ghost use Rattle.plan.specs.Numbers.{numbers};
 ghost use Rattle.plan.specs.Refusal.{Accepted};
 ghost use Rattle.planner.specs.Calls.{noForm, formReckoned, callRefusal, fundAnswer, boundAnswer, gammasAnswer, formAnswer};
@@ -20,7 +21,8 @@ ghost use Rattle.planner.specs.Verdict.{short, wordOf, bitsOf, noPattern
 ghost use Rattle.planner.specs.Arrays.{rolloverArray, ratesArray, constantArray, paymentsRows, commonOf, sharedIn, flowArray, columnOf, Weighable, Prepared};
 ghost use Rattle.planner.specs.Rows.{coefficientsReckoned, refusedRow, rowReckoned, noJudgement, verdictOf};
 ghost use Rattle.planner.specs.Demand3.{FundNear, FormNear, VerdictTrue};
-ghost use Rattle.planner.specs.Plain.{Plain};
+ghost use Rattle.planner.specs.Plain.{PlainFlow, Plain};
+ghost use Rattle.planner.specs.Alike.{Alike};
 
 pub struct BoundAnswer {
     pub refusal: u8,
@@ -289,7 +291,7 @@ fn form_at(common: Common, payments: &[[i64; 30]; 16], i: &[i64; 30]) -> FormAns
 
 // ---- the calls
 
-// The first of the checks 3, 6 to 9 and 10 that a call on pattern t fails, 10 for t = 0 and past the last pattern; 0 if none.
+// The first of the plan's own checks, or of check 10, that a call on pattern t fails, 10 for t = 0 and past the last pattern; 0 if none.
 fn call_refusal(plan: Plan, t: usize) -> u8
     ensures { λ s. ⌜ s ≡ callRefusal (numbers plan) t ⌝ }
 {
@@ -307,7 +309,7 @@ fn call_refusal(plan: Plan, t: usize) -> u8
     0
 }
 
-// The fund of the plan's allocation in pattern t, which counts from 1; 0 on a refusal: 3, 6 to 9, 10 or 11.
+// The fund of the plan's allocation in pattern t, which counts from 1; 0 on a refusal: 3, 6 to 11 or 13.
 pub fn fund(plan: Plan, t: usize) -> Reckoned
     ensures is { λ s. ⌜ s ≡ fundAnswer (numbers plan) t ⌝ }
     ensures near { λ s. ⌜ FundNear (numbers plan) t s ⌝ }
@@ -327,7 +329,7 @@ pub fn fund(plan: Plan, t: usize) -> Reckoned
     fund_at(common, &flow, &i)
 }
 
-// The bound B of pattern t, in amounts; 0 on a refusal: 3, 6 to 9 or 10.
+// The bound B of pattern t, in amounts; 0 on a refusal: 3, 6 to 10 or 13.
 pub fn bound(plan: Plan, t: usize) -> BoundAnswer
     ensures { λ s. ⌜ s ≡ boundAnswer (numbers plan) t ⌝ }
 {
@@ -347,7 +349,7 @@ pub fn bound(plan: Plan, t: usize) -> BoundAnswer
     }
 }
 
-// The linear form of pattern t: K_1 to K_n, Q, and its value at the plan's allocation; zeros on a refusal: 3, 6 to 9, 10 or 11.
+// The linear form of pattern t: K_1 to K_n, Q, and its value at the plan's allocation; zeros on a refusal: 3, 6 to 11 or 13.
 pub fn form(plan: Plan, t: usize) -> FormAnswer
     ensures is { λ s. ⌜ s ≡ formAnswer (numbers plan) t ⌝ }
     ensures near { λ s. ⌜ FormNear (numbers plan) t s ⌝ }
@@ -363,7 +365,7 @@ pub fn form(plan: Plan, t: usize) -> FormAnswer
     form_at(common, &payments, &pattern)
 }
 
-// The table of gammas of pattern t; zeros on a refusal: 3, 6 to 9, 10 or 11.
+// The table of gammas of pattern t; zeros on a refusal: 3, 6 to 11 or 13.
 pub fn gammas(plan: Plan, t: usize) -> GammaTable
     ensures { λ s. ⌜ s ≡ gammasAnswer (numbers plan) t ⌝ }
 {
@@ -607,7 +609,7 @@ pub fn judge_accepted(plan: Plan) -> Judgement
     judged(plan, common, &payments)
 }
 
-// The verdict on a plan, with what each of its patterns comes to; zeros on a refusal: 3, 6 to 9 or 11.
+// The verdict on a plan, with what each of its patterns comes to; zeros on a refusal: 3, 6 to 9, 11 or 13.
 pub fn judge(plan: Plan) -> Judgement
     ensures { λ s. ⌜ s ≡ judgementOf (numbers plan) ⌝ }
 {
@@ -618,11 +620,13 @@ pub fn judge(plan: Plan) -> Judgement
     judge_accepted(plan)
 }
 
-// The verdict on a plan; zeros on a refusal: 3, 6 to 9 or 11.
+// The verdict on a plan; zeros on a refusal: 3, 6 to 9, 11 or 13.
 pub fn verdict(plan: Plan) -> VerdictAnswer
     ensures is { λ s. ⌜ s ≡ verdictAnswer (numbers plan) ⌝ }
     ensures near { λ s. ⌜ VerdictTrue (numbers plan) s ⌝ }
-    ensures plain { λ _. ⌜ (plan .opened ≡ false → Plain (numbers plan)) ⌝ }
+    ensures flow { λ _. ⌜ (plan .opened ≡ false → PlainFlow (numbers plan)) ⌝ }
+    ensures plain { λ _. ⌜ (PlainHeld (held plan) → Plain (held plan)) ⌝ }
+    ensures alike { λ _. ⌜ Alike (held plan) ⌝ }
 {
     let j = judge(plan);
     j.verdict

@@ -15,26 +15,29 @@ use Rattle.whole.proofs.Entry.{entry-at}
 use Rattle.whole.proofs.Table.{table-more, table-cong}
 use Rattle.little_endian.specs.Runs.{numberAt}
 use Rattle.little_endian.specs.TwosComplement.{signedOf}
+use Rattle.records.specs.Record.{Rec}
 use Rattle.records.specs.Cursor.{kindAt, bodyAt}
+use Rattle.records.proofs.Cursor.{recordAt}
 use Rattle.plan.specs.declared.Shape.{Shape}
+use Rattle.plan.specs.declared.Pattern.{Pattern}
 use Rattle.plan.specs.declared.Plan.{Plan}
 use Rattle.plan.specs.Held.{Held, flag, openings, shapeOf, unheldInstrument, unheldPattern, noInstrument, noPattern, noPlan, instrumentFrom, patternFrom, planFrom}
 use Rattle.planfile.specs.Kinds.{roleOf}
 use Rattle.planfile.specs.Groups.{groupsOf, total, spotAt, countOf}
-use Rattle.planfile.specs.Rows.{instrumentIn, patternIn}
+use Rattle.planfile.specs.Rows.{rec, instrumentIn, patternIn}
 use Rattle.planfile.specs.Checks.{rolesOk}
 use Rattle.planfile.specs.Records.{recordIn, heldOf}
 use Rattle.planfile.proofs.Checks.{role-there}
 use Rattle.planfile.proofs.Groups.{held-few, held-all, spot-back}
 use Rattle.planfile.proofs.Seen.{seen, bump, seen-none, seen-all, seen-index, seen-more}
-use Rattle.reader.specs.Reading.{amountsRead, ratesRead, sharesRead}
+use Rattle.reader.specs.Reading.{amountsRead, sharesRead, listRead, slopeRead}
 
 -- ---- record t of a file that has passed check 4 is record j of its role, the next that is to be seen
 pub record Turn (s : List ℕ) (h : Shape) (t role j : ℕ) : Type 0 where
   pub few : j < countOf (groupsOf h) role
   pub before : seen (groupsOf h) t role ≡ j
   pub after : seen (groupsOf h) (t + 1) ≡ bump role (seen (groupsOf h) t)
-  pub body : bodyAt s t ≡ recordIn s h role j .body
+  pub found : recordAt s t ≡ recordIn s h role j
 
 pub turn : (s : List ℕ) (h : Shape) → rolesOk s (groupsOf h) ≡ true → (t : ℕ) → t < total (groupsOf h)
     → {role j : ℕ} → roleOf (kindAt s t) ≡ role → j ≡ spotAt (groupsOf h) t .index → Turn s h t role j
@@ -42,7 +45,10 @@ unfolding recordIn
 turn s h o t l e i =
     let b = spot-back h t l in
     rw (i, ← e, role-there s (groupsOf h) o t l)
-    (record { few = b .index; before = seen-index h t l; after = seen-more h t l; body = ap (bodyAt s) (sym (b .place)) })
+    (record { few = b .index; before = seen-index h t l; after = seen-more h t l; found = ap (recordAt s) (sym (b .place)) })
+
+body-found : {s : List ℕ} {h : Shape} {t role j : ℕ} → Turn s h t role j → bodyAt s t ≡ recordIn s h role j .body
+body-found k = ap (λ (r : Rec). r .body) (k .found)
 
 -- where a role has one record, that is the first
 sole : {s : List ℕ} {h : Shape} {t role j : ℕ} → Turn s h t role j → countOf (groupsOf h) role ≤ 1 → Turn s h t role 0
@@ -97,6 +103,17 @@ changed-back role plan other = simp pick-back
 array-in : {A : Type 0} (m n : ℕ) (f : ℕ → A) (d : A) → table m n f d ≡ table m n (λ k. entry d n f (1 + k)) d
 array-in m n f d = table-cong m n f _ d (λ k l. sym (entry-at d n f k l))
 
+-- a pattern's row, of either kind
+pub list-row : (N kind : ℕ) (body : List ℕ) → kind ≡ 5 → listRead (N - 1) body ≡ patternFrom N (patternIn N (rec kind body))
+unfolding patternIn
+list-row N kind body e =
+    rw e
+    (ap (λ (xs : List ℤ). record { rates = xs; sloped = false; start = pos 0; step = pos 0; until = 0; spare = 0 }) (array-in 30 (N - 1) _ (pos 0)))
+
+pub slope-row : (N kind : ℕ) (body : List ℕ) → kind ≡ 8 → slopeRead body ≡ patternFrom N (patternIn N (rec kind body))
+unfolding patternIn table
+slope-row N kind body e = rw e refl
+
 -- after the last record, all that is held of a kind that may be absent was seen
 once-held : (isHeld : Bool) (n : ℕ) → once (flag isHeld) 0 (pick isHeld n 0) ≡ pick isHeld n 0
 once-held true n = refl
@@ -119,18 +136,16 @@ module _ (s : List ℕ) (h : Shape) where
   unfolding planAfter planSeen planFrom heldOf groupsOf countOf
   after-all = rw (seen-all, once-held (h .opened) (h .years))
 
-  -- the row of an instrument, and that of a pattern
+  -- the row of an instrument, and what is held of a pattern
   instrument-in : (j : ℕ) → j < h .instruments → record { payments = amountsRead (h .years) (recordIn s h 2 j .body) } ≡ instrumentFrom (h .years) (H .instrument (1 + j))
   unfolding heldOf instrumentIn
   instrument-in j l =
       rw (entry-at unheldInstrument (h .instruments) (λ j. instrumentIn (h .years) (recordIn s h 2 j)) j l)
       (ap (λ (xs : List ℤ). record { payments = xs }) (array-in 30 (h .years) _ (pos 0)))
 
-  pattern-in : (j : ℕ) → j < h .patterns → record { rates = ratesRead (h .years - 1) (recordIn s h 5 j .body) } ≡ patternFrom (h .years) (H .pattern (1 + j))
-  unfolding heldOf patternIn
-  pattern-in j l =
-      rw (entry-at unheldPattern (h .patterns) (λ t. patternIn (h .years) (recordIn s h 5 t)) j l)
-      (ap (λ (xs : List ℤ). record { rates = xs }) (array-in 30 (h .years - 1) _ (pos 0)))
+  pattern-in : (j : ℕ) → j < h .patterns → patternIn (h .years) (recordIn s h 5 j) ≡ H .pattern (1 + j)
+  unfolding heldOf
+  pattern-in j l = sym (entry-at unheldPattern (h .patterns) (λ t. patternIn (h .years) (recordIn s h 5 t)) j l)
 
   -- a turn: p is the plan before record t, whose body was handed on, and q the plan after it, where just what is of its role has changed
   module _ {t : ℕ} {p q : Plan} {body : List ℕ} (held : p ≡ planAfter t) (handed : body ≡ bodyAt s t) where
@@ -147,32 +162,51 @@ module _ (s : List ℕ) (h : Shape) where
     unfolding planAfter planSeen heldOf groupsOf countOf
     fill-instrument {j} k kept e x l =
         next 2 k kept
-        (rw (e, held, k .before, x, handed, k .body, instrument-in j (k .few), table-more 16 j (λ j. instrumentFrom (h .years) (H .instrument (1 + j))) noInstrument l))
+        (rw (
+          e,
+          held,
+          k .before,
+          x,
+          handed,
+          body-found k,
+          instrument-in j (k .few),
+          table-more 16 j (λ j. instrumentFrom (h .years) (H .instrument (1 + j))) noInstrument l,
+        ))
 
     pub fill-outflows : {j : ℕ} → Turn s h t 3 j → changed 3 q p ≡ p → q .outflows ≡ amountsRead (h .years) body → q ≡ planAfter (t + 1)
     unfolding planAfter planSeen heldOf groupsOf countOf
     fill-outflows k kept e =
         let f = sole k (omega arith) in
-        next 3 k kept (rw (f .before, e, handed, f .body, array-in 30 (h .years) (λ k. signedOf 8 (numberAt 8 (recordIn s h 3 0 .body) k)) (pos 0)))
+        next 3 k kept (rw (f .before, e, handed, body-found f, array-in 30 (h .years) (λ k. signedOf 8 (numberAt 8 (recordIn s h 3 0 .body) k)) (pos 0)))
 
     pub fill-rollover : {j : ℕ} → Turn s h t 4 j → changed 4 q p ≡ p → q .rollover ≡ sharesRead 30 (h .terms) body → q ≡ planAfter (t + 1)
     unfolding planAfter planSeen heldOf groupsOf countOf
     fill-rollover k kept e =
         let f = sole k (omega arith) in
-        next 4 k kept (rw (f .before, e, handed, f .body, array-in 30 (h .terms) (numberAt 4 (recordIn s h 4 0 .body)) 0))
+        next 4 k kept (rw (f .before, e, handed, body-found f, array-in 30 (h .terms) (numberAt 4 (recordIn s h 4 0 .body)) 0))
 
-    pub fill-pattern : {j : ℕ} {xs : List ℤ} → Turn s h t 5 j → changed 5 q p ≡ p → q .pattern ≡ set (p .pattern) j (record { rates = xs })
-        → xs ≡ ratesRead (h .years - 1) body → j < 64 → q ≡ planAfter (t + 1)
+    -- a pattern's row, which is read as its kind says
+    pub fill-pattern : {j : ℕ} {row : Pattern} → Turn s h t 5 j → changed 5 q p ≡ p → q .pattern ≡ set (p .pattern) j row
+        → row ≡ patternFrom (h .years) (patternIn (h .years) (rec (kindAt s t) body)) → j < 64 → q ≡ planAfter (t + 1)
     unfolding planAfter planSeen heldOf groupsOf countOf
     fill-pattern {j} k kept e x l =
         next 5 k kept
-        (rw (e, held, k .before, x, handed, k .body, pattern-in j (k .few), table-more 64 j (λ t. patternFrom (h .years) (H .pattern (1 + t))) noPattern l))
+        (rw (
+          e,
+          held,
+          k .before,
+          x,
+          handed,
+          k .found,
+          pattern-in j (k .few),
+          table-more 64 j (λ t. patternFrom (h .years) (H .pattern (1 + t))) noPattern l,
+        ))
 
     pub fill-allocation : {j : ℕ} → Turn s h t 6 j → changed 6 q p ≡ p → q .allocation ≡ sharesRead 16 (h .instruments) body → q ≡ planAfter (t + 1)
     unfolding planAfter planSeen heldOf groupsOf countOf
     fill-allocation k kept e =
         let f = sole k (omega arith) in
-        next 6 k kept (rw (f .before, e, handed, f .body, array-in 16 (h .instruments) (numberAt 4 (recordIn s h 6 0 .body)) 0))
+        next 6 k kept (rw (f .before, e, handed, body-found f, array-in 16 (h .instruments) (numberAt 4 (recordIn s h 6 0 .body)) 0))
 
     pub fill-opening : {j : ℕ} → Turn s h t 7 j → changed 7 q p ≡ p → q .opening ≡ amountsRead (h .years) body → q ≡ planAfter (t + 1)
     unfolding planAfter planSeen heldOf groupsOf countOf
@@ -184,6 +218,6 @@ module _ (s : List ℕ) (h : Shape) where
           held-all (h .opened) (f .few) (h .years),
           e,
           handed,
-          f .body,
+          body-found f,
           array-in 30 (h .years) (λ k. signedOf 8 (numberAt 8 (recordIn s h 7 0 .body) k)) (pos 0),
         ))

@@ -17,7 +17,7 @@ ghost use Rattle.planfile.specs.Records.{recordIn, heldOf};
 ghost use Rattle.planfile.specs.Read.{readAnswer};
 ghost use Rattle.planfile.specs.Demand2.{OneFile};
 ghost use Rattle.planfile.specs.Reading.{InRange, Laid};
-ghost use Rattle.reader.specs.Reading.{Inside, partOf, headIn, amountsRead, ratesRead, sharesRead};
+ghost use Rattle.reader.specs.Reading.{Inside, partOf, headIn, amountsRead, ratesRead, sharesRead, listRead, slopeRead};
 
 // ---- the cursor
 
@@ -281,6 +281,41 @@ fn rates(body: &[u8], n: usize) -> [i32; 30]
     rates
 }
 
+// The pattern that lists the first n rates of a body.
+fn list_in(body: &[u8], n: usize) -> Pattern
+    requires { ⌜ n ≤ 30 ⌝ }
+    requires { ⌜ 4 * n ≤ length (now body) ⌝ }
+    ensures { λ r. ⌜ r ≡ listRead n (now (body .entry)) ⌝ }
+{
+    let rates = rates(body, n);
+    Pattern {
+        rates,
+        sloped: false,
+        start: 0,
+        step: 0,
+        until: 0,
+        spare: 0,
+    }
+}
+
+// The slope of a body: its start, its step and its T.
+fn slope_in(body: &[u8]) -> Pattern
+    requires { ⌜ 9 ≤ length (now body) ⌝ }
+    ensures { λ r. ⌜ r ≡ slopeRead (now (body .entry)) ⌝ }
+{
+    let start = little_endian::i32_at(body, 0);
+    let step = little_endian::i32_at(body, 4);
+    let until = body[8];
+    Pattern {
+        rates: [0i32; 30],
+        sloped: true,
+        start,
+        step,
+        until,
+        spare: 0,
+    }
+}
+
 // The first n shares of a body, put into an array of zeros that is lent.
 fn shares(body: &[u8], n: usize, out: &mut [u32])
     requires { ⌜ n ≤ length (now out) ⌝ }
@@ -309,7 +344,14 @@ fn no_plan() -> Plan
         }; 16],
         outflows: [0i64; 30],
         rollover: [0u32; 30],
-        pattern: [Pattern { rates: [0i32; 30] }; 64],
+        pattern: [Pattern {
+            rates: [0i32; 30],
+            start: 0,
+            step: 0,
+            sloped: false,
+            until: 0,
+            spare: 0,
+        }; 64],
         allocation: [0u32; 16],
         opening: [0i64; 30],
         opened: false,
@@ -355,8 +397,8 @@ fn plan_in(file: &[u8], shape: Shape) -> Plan
                         plan.rollover = rollover;
                     }
                     5 => {
-                        let rates = rates(body, shape.years - 1);
-                        plan.pattern[index] = Pattern { rates };
+                        let list = list_in(body, shape.years - 1);
+                        plan.pattern[index] = list;
                     }
                     6 => {
                         let mut allocation = [0u32; 16];
@@ -366,7 +408,11 @@ fn plan_in(file: &[u8], shape: Shape) -> Plan
                     7 => {
                         plan.opening = amounts(body, shape.years);
                     }
-                    8.. => {}
+                    8 => {
+                        let slope = slope_in(body);
+                        plan.pattern[index] = slope;
+                    }
+                    9.. => {}
                 }
             }
             Next::Stop { left: _ } => {
@@ -388,7 +434,7 @@ fn refused(number: u8) -> ReadAnswer
     }
 }
 
-// The plan that a file holds, or the number of the first check that the file fails.
+// The plan that a file holds, or the number of the first of the checks 1 to 9, with 13 right before 8, that the file fails.
 pub fn read(file: &[u8]) -> ReadAnswer
     ensures is { λ r. ⌜ r ≡ readAnswer (now (file .entry)) ⌝ }
     ensures kept { λ r. ⌜ (r .refusal ≡ 0 → OneFile (now (file .entry)) (r .plan)) ⌝ }

@@ -1,5 +1,5 @@
 -- ℤ as an ordered commutative ring: what lib.IntN and lib.Signed lack.
-use mathlib.Core.Path.{_≡_, sym, ap, _∙_}
+use mathlib.Core.Path.{_≡_, sym, ap, _∙_, subst}
 use mathlib.Core.Bool.{Bool, true, false, not}
 use mathlib.Core.Logic.{_⊎_, inl, inr, ⊎-elim}
 use Prim.Native.Nat.{ℕ, zero, _+_, _≤_, _<_}
@@ -82,6 +82,10 @@ pub ℕ-cases : (k n : ℕ) → (k < n) ⊎ (n ≤ k)
     go : (c : Bool) → (T c → k < n) → (T (not c) → n ≤ k) → (k < n) ⊎ (n ≤ k)
     go true f g = inl (f tt)
     go false f g = inr (g tt)
+
+-- what holds of every number below n and of n holds below n + 1
+pub below-more : (Q : ℕ → Type 0) (n : ℕ) → ((k : ℕ) → k < n → Q k) → Q n → (k : ℕ) → k < n + 1 → Q k
+below-more Q n all last k h = ⊎-elim (λ (l : k < n). all k l) (λ (l : n ≤ k). let e : n ≡ k = omega arith in subst Q e last) (ℕ-cases k n)
 
 pub ℤ-cases : (a b : ℤ) → (a <ℤ b) ⊎ (b ≤ℤ a)
 ℤ-cases a b = ⊎-elim (λ h. inl (→lt h)) (λ h. inr (→le h)) (ℕ-cases (plus a + minus b) (plus b + minus a))

@@ -5,10 +5,10 @@ use native.Mathlib.Nat.{mul-le-mul, le-trans, div-le-self}
 use native.Mathlib.Omega.{arith}
 use lib.IntN.{natAbs, ℤ, pos, negsuc, negℤ, _+ℤ_, _-ℤ_, _*ℤ_}
 use lib.Signed.{mag, quotZ, _≤ℤ_}
-use mir.Syntax.{w64}
+use mir.Syntax.{w32, w64}
 use mir.Val.{SFits, toZ, ofZ}
 use mir.Facts.{toZ-ofZ, toZ-pos}
-use Rattle.whole.specs.Range.{Within}
+use Rattle.whole.specs.Range.{Between, Within}
 use Rattle.whole.proofs.Bridge.{plus, minus, at, #, _⊕_, _⊖_, ⊝, whole}
 
 -- ---- ranges through the operations
@@ -92,3 +92,15 @@ pos64 f = toZ-pos w64 (f .sfits)
 -- `x == y` of two signed locals compares their bits
 pub bits-same : {x y : ℤ} → SFits w64 x → SFits w64 y → ofZ w64 x ≡ ofZ w64 y → x ≡ y
 bits-same f g e = sym (back f) ∙ ap (toZ w64) e ∙ back g
+
+-- ---- a signed word of 32 bits
+pub between-32 : {z : ℤ} → SFits w32 z → Between (negsuc 2_147_483_647) (pos 2_147_483_647) z
+between-32 {z} f = let h : mag z < 2_147_483_648 = f .sfits in go z h
+  where
+    go : (z : ℤ) → mag z < 2_147_483_648 → Between (negsuc 2_147_483_647) (pos 2_147_483_647) z
+    go (pos n) h = omega (whole, h)
+    go (negsuc n) h = omega (whole, h)
+
+pub fits-32 : {z : ℤ} → Between (negsuc 2_147_483_647) (pos 2_147_483_647) z → SFits w32 z
+fits-32 {z = pos n} w = record { sfits = omega (whole, w) }
+fits-32 {z = negsuc n} w = record { sfits = omega (whole, w) }

@@ -38,6 +38,16 @@ pub pick-few : (b : Bool) (n : ℕ) → pick b n 0 ≤ n
 pick-few true n = omega arith
 pick-few false n = omega arith
 
+-- none, or n
+pub pick-none-few : (b : Bool) (n : ℕ) → pick b 0 n ≤ n
+pick-none-few true n = omega arith
+pick-none-few false n = omega arith
+
+-- a test that picks twice picks once
+pub pick-again : {A : Type 0} (b : Bool) (x y z : A) → pick b (pick b x y) z ≡ pick b x z
+pick-again true x y z = refl
+pick-again false x y z = refl
+
 -- ---- an answer that a test picks: which way it went shows in its refusal, a number that is 0 in the one and not in the other
 module _ {A : Type 0} (refusal : A → ℕ) (x y : A) (ok : refusal x ≡ 0) (bad : refusal y ≡ 0 → ⊥) where
   pub picked-yes : (b : Bool) (s : A) → s ≡ pick b x y → refusal s ≡ 0 → b ≡ true

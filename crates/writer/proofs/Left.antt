@@ -7,7 +7,7 @@ use borrow.Author.Tests.{le-leb, lt-leb}
 use lib.ListN.{length, take}
 use lib.Seq.{sets}
 use Rattle.plan.specs.declared.Plan.{Plan}
-use Rattle.plan.specs.Held.{held}
+use Rattle.plan.specs.Held.{held, Typed}
 use Rattle.plan.specs.Numbers.{numbers}
 use Rattle.plan.specs.Refusal.{refusalOf}
 use Rattle.plan.proofs.Checks.{first-some, answer-refused, answer-accepted}
@@ -23,12 +23,9 @@ module _ (plan : Plan) (buffer : List ℕ) where
   Left a buffer' =
       (a ≡ writeAnswer plan buffer) × ((buffer' ≡ bufferAfter plan buffer) × (a .refusal ≡ 0 → OneFile (take (a .length) buffer') plan))
 
-  left : {a : WriteAnswer} {buffer' : List ℕ} → a ≡ writeAnswer plan buffer → buffer' ≡ bufferAfter plan buffer → Left a buffer'
-  left is after = (is, (after, file-written plan buffer is after))
-
   refused : (n : ℕ) → writeRefusal plan buffer ≡ n → (n ≡ 0 → ⊥) → Left (record { refusal = n; length = 0 }) buffer
   unfolding writeAnswer bufferAfter
-  refused n e h = left (rw e (sym (answer-refused _ n _ h))) (rw e (sym (answer-refused _ n _ h)))
+  refused n e h = (rw e (sym (answer-refused _ n _ h)), (rw e (sym (answer-refused _ n _ h)), λ z. absurd (h z)))
 
   pub refused-plan : {n : ℕ} → n ≡ refusalOf (numbers plan) → (n ≡ 0 → ⊥) → Left (record { refusal = n; length = 0 }) buffer
   unfolding writeRefusal
@@ -39,9 +36,11 @@ module _ (plan : Plan) (buffer : List ℕ) where
     unfolding writeRefusal
     refused-short {n} e h = refused 12 (rw (ok, ← e, lt-leb n _ h)) (λ z. omega arith)
 
-    pub written : {n : ℕ} {buffer' : List ℕ} → n ≡ length (fileOf (held plan)) → buffer' ≡ sets buffer 0 (fileOf (held plan)) → n ≤ length buffer
-        → Left (record { refusal = 0; length = n }) buffer'
+    pub written : Typed plan → {n : ℕ} {buffer' : List ℕ} → n ≡ length (fileOf (held plan)) → buffer' ≡ sets buffer 0 (fileOf (held plan))
+        → n ≤ length buffer → Left (record { refusal = 0; length = n }) buffer'
     unfolding writeRefusal writeAnswer bufferAfter
-    written {n} e s h =
+    written typed {n} {buffer'} e s h =
         let i : writeRefusal plan buffer ≡ 0 = rw (ok, ← e, le-leb n _ h) in
-        left (rw e (sym (answer-accepted _ _ _ i))) (s ∙ sym (answer-accepted _ _ _ i))
+        let is : record { refusal = 0; length = n } ≡ writeAnswer plan buffer = rw e (sym (answer-accepted _ _ _ i)) in
+        let after : buffer' ≡ bufferAfter plan buffer = s ∙ sym (answer-accepted _ _ _ i) in
+        (is, (after, file-written plan buffer typed is after))

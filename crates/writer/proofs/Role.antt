@@ -1,37 +1,49 @@
--- Records by role: each role is that of one kind, whose number it is.
+-- Records by role: no role is past 7, and each but a pattern's is that of one kind, whose number it is.
 use mathlib.Core.Path.{_≡_, refl, sym, ap, _∙_}
+use mathlib.Core.Bool.{Bool, true}
 use mathlib.Core.Logic.{⊎-elim}
 use Prim.Native.Nat.{ℕ, suc, _≤_, _<_}
 use native.Mathlib.Omega.{arith}
-use borrow.Author.Tests.{eqb-true}
-use lib.Dec.{eqb}
+use borrow.Author.Tests.{eqb-true, ne-eqb, leb-true}
+use lib.Dec.{eqb, leb}
 use lib.ListN.{length}
 use Rattle.whole.specs.Entry.{nth}
-use Rattle.whole.specs.Test.{all}
+use Rattle.whole.specs.Test.{pick, all}
 use Rattle.whole.proofs.Entry.{nth-outside}
 use Rattle.whole.proofs.Laws.{ℕ-cases}
 use Rattle.whole.proofs.Test.{all-at}
 use Rattle.plan.specs.Held.{Held}
-use Rattle.planfile.specs.Kinds.{roles, roleOf, sizeOf}
+use Rattle.planfile.specs.Kinds.{roles, roleOf}
 use Rattle.planfile.specs.Groups.{groupsOf, countOf}
 use Rattle.planfile.specs.Records.{recordOf}
 use Rattle.planfile.proofs.Groups.{role-some}
 use Rattle.planfile.proofs.Roles.{suits-held}
 
--- that it is, is computed
-role-own : (kind : ℕ) → 0 < roleOf kind → (roleOf kind ≡ kind) × (kind ≤ length roles)
-unfolding roleOf nth all
-role-own kind some = ⊎-elim
+-- a test that every kind passes; that it does is computed
+kind-passes : (test : ℕ → Bool) → all (suc (length roles)) test ≡ true → (kind : ℕ) → 0 < roleOf kind → test kind ≡ true
+unfolding roleOf
+kind-passes test e kind some = ⊎-elim
     (λ (l : length roles < kind). absurd (omega (arith, nth-outside 0 roles kind (λ h. l))))
-    (λ (l : kind ≤ length roles). (eqb-true _ _ (all-at (suc (length roles)) (λ k. eqb (roleOf k) k) kind (omega arith) refl), l))
+    (λ (l : kind ≤ length roles). all-at (suc (length roles)) test kind (omega arith) e)
     (ℕ-cases (length roles) kind)
 
 module _ (H : Held) (role j : ℕ) (l : j < countOf (groupsOf (H .shape)) role) where
-  own : (roleOf (recordOf H role j .kind) ≡ recordOf H role j .kind) × (recordOf H role j .kind ≤ length roles)
-  own = role-own (recordOf H role j .kind) (rw (suits-held H role j l .stands) (role-some (H .shape) role j l))
+  abbrev kind : ℕ
+  kind = recordOf H role j .kind
 
-  pub role-few : role ≤ length roles
-  role-few = omega (arith, own .0, own .1, suits-held H role j l .stands)
+  stands : roleOf kind ≡ role
+  stands = suits-held H role j l .stands
 
-  pub length-held : length (recordOf H role j .body) ≡ sizeOf (H .shape) role
-  length-held = let u = suits-held H role j l in u .size ∙ ap (sizeOf (H .shape)) (sym (own .0) ∙ u .stands)
+  some : 0 < roleOf kind
+  some = rw stands (role-some (H .shape) role j l)
+
+  pub role-few : role ≤ 7
+  unfolding roleOf nth all
+  role-few = rw stands at (leb-true (roleOf kind) 7 (kind-passes (λ k. leb (roleOf k) 7) refl kind some))
+
+  pub kind-own : (role ≡ 5 → ⊥) → kind ≡ role
+  unfolding roleOf nth all
+  kind-own other =
+      let tested = ne-eqb (roleOf kind) 5 (λ e. other (sym stands ∙ e)) in
+      let own = kind-passes (λ k. pick (eqb (roleOf k) 5) true (eqb k (roleOf k))) refl kind some in
+      eqb-true kind (roleOf kind) (ap (λ (b : Bool). pick b true (eqb kind (roleOf kind))) (sym tested) ∙ own) ∙ stands

@@ -14,13 +14,13 @@ ghost use Rattle.little_endian.specs.Wrote.{Room, Wrote};
 ghost use Rattle.records.specs.Record.{recordBytes};
 ghost use Rattle.plan.specs.Held.{shapeOf, instrumentHeld, patternHeld, held};
 ghost use Rattle.planfile.specs.Groups.{groupsOf, countOf};
-ghost use Rattle.planfile.specs.Rows.{rec, amountsBytes, ratesBytes, sharesBytes, headRec, instrumentRec, patternRec};
+ghost use Rattle.planfile.specs.Rows.{rec, amountsBytes, ratesBytes, sharesBytes, headRec, instrumentRec, slopeBytes, patternRec};
 ghost use Rattle.planfile.specs.Records.{recordOf, fileOf};
 ghost use Rattle.planfile.specs.Reading.{InRange};
 ghost use Rattle.planfile.specs.Write.{writeAnswer, bufferAfter};
 ghost use Rattle.planfile.specs.Demand2.{OneFile};
 ghost use Rattle.writer.specs.First.{first};
-ghost use Rattle.writer.specs.Row.{NoRow};
+ghost use Rattle.writer.specs.Row.{NoRow, patternKind};
 
 // ---- numbers
 
@@ -89,6 +89,18 @@ fn put_amounts_record(b: &mut [u8], at: usize, kind: u16, xs: &[i64], n: usize) 
     put_amounts(b, body, xs, n)
 }
 
+// A record of n rates. The place after it.
+fn put_rates_record(b: &mut [u8], at: usize, kind: u16, xs: &[i32], n: usize) -> usize
+    requires { ⌜ n ≤ 30 ⌝ }
+    requires { ⌜ n ≤ length (now xs) ⌝ }
+    requires { ⌜ Room (now b) at (recordBytes (rec kind (ratesBytes n (first (pos 0) n (now xs))))) ⌝ }
+    ensures { λ r. ⌜ Wrote (now (b .entry)) (now (b .exit)) at
+        (recordBytes (rec kind (ratesBytes n (first (pos 0) n (now (xs .entry)))))) r ⌝ }
+{
+    let body = put_front(b, at, kind, (4 * n) as u16);
+    put_rates(b, body, xs, n)
+}
+
 // A record of n shares. The place after it.
 fn put_shares_record(b: &mut [u8], at: usize, kind: u16, xs: &[u32], n: usize) -> usize
     requires { ⌜ n ≤ 30 ⌝ }
@@ -124,17 +136,32 @@ fn put_instrument(b: &mut [u8], at: usize, row: Instrument, years: usize) -> usi
     put_amounts_record(b, at, 2, &payments, years)
 }
 
-// A pattern's record: its rates, one fewer than there are years. The place after it.
+// The record of a slope: its start and its step, 4 bytes each, and T, one byte. The place after it.
+fn put_slope(b: &mut [u8], at: usize, start: i32, step: i32, until: u8) -> usize
+    requires { ⌜ Room (now b) at (recordBytes (rec 8 (slopeBytes start step until))) ⌝ }
+    ensures { λ r. ⌜ Wrote (now (b .entry)) (now (b .exit)) at (recordBytes (rec 8 (slopeBytes start step until))) r ⌝ }
+{
+    let body = put_front(b, at, 8, 9);
+    little_endian::put_i32(b, body, start);
+    little_endian::put_i32(b, body + 4, step);
+    b[body + 8] = until;
+    body + 9
+}
+
+// A pattern's record, of the kind that it is held as. The place after it.
 fn put_pattern(b: &mut [u8], at: usize, row: Pattern, years: usize) -> usize
     requires { ⌜ 1 ≤ years ⌝ }
     requires { ⌜ years ≤ 30 ⌝ }
     requires { ⌜ Room (now b) at (recordBytes (patternRec years (patternHeld years row))) ⌝ }
     ensures { λ r. ⌜ Wrote (now (b .entry)) (now (b .exit)) at (recordBytes (patternRec years (patternHeld years row))) r ⌝ }
 {
+    let sloped = row.sloped;
+    if sloped {
+        return put_slope(b, at, row.start, row.step, row.until);
+    }
     let rates = row.rates;
     let n = years - 1;
-    let body = put_front(b, at, 5, (4 * n) as u16);
-    put_rates(b, body, &rates, n)
+    put_rates_record(b, at, 5, &rates, n)
 }
 
 // Record j of a role other than an instrument's or a pattern's. The place after it.
@@ -207,22 +234,41 @@ fn put_file(b: &mut [u8], plan: Plan) -> usize
     place
 }
 
-// The length of the plan's file: each record has four bytes and its body.
+// The kind of a pattern's record: 8 where it is a slope, else 5.
+fn kind_of(row: Pattern) -> usize
+    ensures { λ r. ⌜ r ≡ patternKind row ⌝ }
+{
+    let sloped = row.sloped;
+    if sloped { 8 } else { 5 }
+}
+
+// The length of the plan's file: each record has four bytes and its body, whose length goes by its kind.
 fn file_size(plan: Plan) -> usize
     requires { ⌜ InRange (shapeOf plan) ⌝ }
     ensures { λ r. ⌜ r ≡ length (fileOf (held plan)) ⌝ }
 {
     let shape = plan::shape_of(plan);
     let count = planfile::count(shape);
+    let pattern = plan.pattern;
     let mut sum = 0;
     for t in 0..count {
         let spot = planfile::spot_at(shape, t);
-        sum += 4 + planfile::size_of(shape, spot.role);
+        let role = spot.role;
+        let j = spot.index;
+        let kind = match role {
+            5 => {
+                let row = pattern[j];
+                kind_of(row)
+            }
+            _ => role,
+        };
+        sum += 4 + planfile::size_of(shape, kind);
     }
     sum
 }
 
-// The plan's file in the first bytes of the buffer, or the number of the first of the checks 3, 6 to 9 and 12 that fails.
+// The plan's file in the first bytes of the buffer, or the number of the first of the checks 3, 6 to 9, with 13 right before 8, and 12
+// that fails.
 pub fn write(plan: Plan, buffer: &mut [u8]) -> WriteAnswer
     ensures is { λ r. ⌜ r ≡ writeAnswer plan (now (buffer .entry)) ⌝ }
     ensures left { λ r. ⌜ now (buffer .exit) ≡ bufferAfter plan (now (buffer .entry)) ⌝ }

@@ -1,25 +1,22 @@
--- `arrays::patterns_of` fills in row after row (whole's Filling).
-use mathlib.Core.Path.{ap}
-use mathlib.Core.List.{List}
-use Prim.Native.Nat.{_*_, _-_}
+-- `arrays::patterns_of` fills in pattern after pattern (whole's Filling).
+use Prim.Native.Nat.{_-_}
 use native.Mathlib.Omega.{arith}
-use lib.IntN.{ℤ}
 use Rattle.whole.proofs.Filling.{Filling, fill-start, fill-turn, fill-end}
 use Rattle.plan.specs.Held.{noPattern}
-use Rattle.arrays.specs.Arrays.{valuesAt, patternsOf}
+use Rattle.arrays.specs.Arrays.{patternOf, patternsOf}
 use Rattle.arrays.proofs.patterns_of.Statement.{statement}
 use Rattle.arrays.proofs.patterns_of.Tie as tie
 
 abbrev Inv-loop : tie.InvT-loop
-Inv-loop rates rows₀ t₀ rows t = Filling 64 64 (λ t. record { rates = valuesAt rates (30 * t) 30 }) noPattern rows t
+Inv-loop counts rates rows₀ t₀ rows t = Filling 64 64 (patternOf counts rates) noPattern rows t
 
 abbrev μ-loop : tie.MeasureT-loop
-μ-loop rates rows₀ t₀ rows t = 64 - t
+μ-loop counts rates rows₀ t₀ rows t = 64 - t
 
 loop-again : tie.Need-loop-again Inv-loop μ-loop
 loop-again c =
-    let t = c .before .before in
-    fill-turn (omega arith) (t .loop-test .taken) (t .before .loop .inv) (ap (λ (l : List ℤ). record { rates = l }) (c .rates-at .ensures))
+    let t = c .before in
+    fill-turn (omega arith) (t .loop-test .taken) (t .before .loop .inv) (c .pattern-at .ensures)
 
 returns : tie.Need-returns Inv-loop μ-loop
 unfolding patternsOf
@@ -32,6 +29,6 @@ patterns-of-spec =
     Inv-loop
     μ-loop
     (λ c. fill-start)
-    (λ c. omega arith) (λ c κs. omega arith) (λ c. omega arith) (λ c. omega arith) (λ c. omega arith) (λ c. omega arith)
+    (λ c κs. omega arith) (λ c. omega arith) (λ c. omega arith) (λ c. omega arith) (λ c. omega arith)
     loop-again
     returns)

@@ -9,7 +9,7 @@ use Rattle.plan.proofs.refusal.Tie as tie
 
 returns : tie.Need-returns
 unfolding refusalOf
-returns c = let e = c .before .head-refusal .ensures in e ∙ sym (first-some _ _ (λ z. c .if1 .taken (e ∙ z)))
+returns c = let e = c .before .head-refusal .ensures in (e ∙ sym (first-some _ _ (λ z. c .if1 .taken (e ∙ z))), λ z. absurd (c .if1 .taken z))
 
 module _ (c : tie.Else1) where
   none-3 : headRefusal (numbers (c .before .before .args .plan)) ≡ 0
@@ -25,7 +25,7 @@ returns-2 : tie.Need-returns-2
 unfolding refusalOf
 returns-2 c =
     let e = c .before .amounts-refusal .ensures in
-    rw (none-3 (c .before .before)) (e ∙ sym (first-some _ _ (λ z. c .if2 .taken (e ∙ z))))
+    (rw (none-3 (c .before .before)) (e ∙ sym (first-some _ _ (λ z. c .if2 .taken (e ∙ z)))), λ z. absurd (c .if2 .taken z))
 
 none-7 : (c : tie.Else2) → amountsRefusal (numbers (c .before .before .before .before .args .plan)) ≡ 0
 none-7 c = sym (c .before .amounts-refusal .ensures) ∙ c .if2 .left
@@ -36,9 +36,9 @@ rates-refusal-requires c κs = head (c .before .before)
 returns-3 : tie.Need-returns-3
 unfolding refusalOf
 returns-3 c =
-    let e = c .before .rates-refusal .ensures in
+    let e = c .before .rates-refusal .ensures .0 in
     let d = c .before .before in
-    rw (none-3 (d .before .before), none-7 d) (e ∙ sym (first-some _ _ (λ z. c .if3 .taken (e ∙ z))))
+    (rw (none-3 (d .before .before), none-7 d) (e ∙ sym (first-some _ _ (λ z. c .if3 .taken (e ∙ z)))), λ z. absurd (c .if3 .taken z))
 
 allocation-refusal-requires : tie.Need-allocation-refusal-requires
 allocation-refusal-requires c κs = head (c .before .before .before .before)
@@ -48,7 +48,8 @@ unfolding refusalOf
 returns-4 c =
     let f = c .before in
     let d = f .before .before in
-    rw (none-3 (d .before .before), none-7 d, sym (f .before .rates-refusal .ensures) ∙ f .if3 .left) (c .allocation-refusal .ensures)
+    let r = f .before .rates-refusal .ensures in
+    (rw (none-3 (d .before .before), none-7 d, sym (r .0) ∙ f .if3 .left) (c .allocation-refusal .ensures), λ z. r .1 (f .if3 .left))
 
 pub refusal-spec : {M : Type 1} → statement M
 refusal-spec =

@@ -40,8 +40,12 @@ unfolding roleOf nth
 returns-8 c = rw (c .match .keys8)
 
 returns-9 : tie.Need-returns-9
+unfolding roleOf nth
+returns-9 c = rw (c .match .keys9)
+
+returns-10 : tie.Need-returns-10
 unfolding roleOf
-returns-9 c = sym (nth-outside 0 roles _ (λ l. past 8 (c .match .rest)))
+returns-10 c = sym (nth-outside 0 roles _ (λ l. past 9 (c .match .rest)))
 
 pub role-of-spec : {M : Type 1} → statement M
 role-of-spec =
@@ -55,4 +59,5 @@ role-of-spec =
     returns-6
     returns-7
     returns-8
-    returns-9)
+    returns-9
+    returns-10)

@@ -41,8 +41,12 @@ unfolding sizeOf nth
 returns-8 c = rw (c .before .match .keys8)
 
 returns-9 : tie.Need-returns-9
+unfolding sizeOf nth
+returns-9 c = rw (c .match .keys9)
+
+returns-10 : tie.Need-returns-10
 unfolding sizeOf
-returns-9 c = sym (nth-outside 0 _ _ (λ l. past 8 (c .match .rest)))
+returns-10 c = sym (nth-outside 0 _ _ (λ l. past 9 (c .match .rest)))
 
 pub size-of-spec : {M : Type 1} → statement M
 size-of-spec =
@@ -58,4 +62,5 @@ size-of-spec =
     returns-6
     returns-7
     returns-8
-    returns-9)
+    returns-9
+    returns-10)

@@ -9,11 +9,11 @@ use Rattle.planner.proofs.call_refusal.Statement.{statement}
 use Rattle.planner.proofs.call_refusal.Tie as tie
 
 returns : tie.Need-returns
-returns c = refused-plan _ _ (c .before .refusal .ensures) (c .if1 .taken)
+returns c = refused-plan _ _ (c .before .refusal .ensures .0) (c .if1 .taken)
 
 -- the plan is accepted
 none : (c : tie.Else1) → refusalOf (numbers (c .before .before .args .plan)) ≡ 0
-none c = sym (c .before .refusal .ensures) ∙ c .if1 .left
+none c = sym (c .before .refusal .ensures .0) ∙ c .if1 .left
 
 returns-2 : tie.Need-returns-2
 returns-2 c = refused-pattern _ _ (none (c .before)) (from-under _ _ _ (c .if2 .taken))

@@ -7,10 +7,10 @@ use Rattle.planner.proofs.judge.Statement.{statement}
 use Rattle.planner.proofs.judge.Tie as tie
 
 returns : tie.Need-returns
-returns c = let taken = c .before .if1 .taken in c .no-judgement .ensures ∙ judge-refused _ (plan-refuses _ (c .before .before .refusal .ensures) taken) taken
+returns c = let taken = c .before .if1 .taken in c .no-judgement .ensures ∙ judge-refused _ (plan-refuses _ (c .before .before .refusal .ensures .0) taken) taken
 
 judge-accepted-requires : tie.Need-judge-accepted-requires
-judge-accepted-requires c κs = accepted _ (sym (c .before .refusal .ensures) ∙ c .if1 .left)
+judge-accepted-requires c κs = accepted _ (sym (c .before .refusal .ensures .0) ∙ c .if1 .left)
 
 returns-2 : tie.Need-returns-2
 returns-2 c = c .judge-accepted .ensures

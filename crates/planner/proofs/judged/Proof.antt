@@ -1,14 +1,14 @@
 -- `planner::judged` fills in the row of one pattern after the other, until check 11 refuses one (RowLaws, `Rowed`), and has the
 -- verdict that their words make.
 use mathlib.Core.Path.{_≡_, ap, ap₂, _∙_}
-use mathlib.Core.List.{List, []}
+use mathlib.Core.List.{List}
 use Prim.Native.Nat.{ℕ, _+_, _-_, _<_}
 use native.Mathlib.Omega.{arith}
 use borrow.Author.Needs.{needs}
 use lib.ListN.{getD}
 use lib.IntN.{ℤ}
 use Rattle.reckoning.specs.Arrays.{ratesOf}
-use Rattle.plan.specs.Held.{patternHeld}
+use Rattle.plan.specs.Held.{patternHeld, missingPattern}
 use Rattle.plan.specs.Numbers.{Numbers, ratesMeant, numbers}
 use Rattle.plan.specs.declared.Pattern.{Pattern}
 use Rattle.planner.specs.Calls.{sharedOf}
@@ -23,7 +23,7 @@ use Rattle.planner.proofs.judged.Tie as tie
 
 -- the rates of the pattern at t, as they are meant
 abbrev ratesAt : (years : ℕ) (patterns : List Pattern) (t : ℕ) → List ℤ
-ratesAt years patterns t = ratesMeant years (patternHeld years (getD patterns t (record { rates = [] })))
+ratesAt years patterns t = ratesMeant years (patternHeld years (getD patterns t missingPattern))
 
 abbrev Inv-loop : tie.InvT-loop
 Inv-loop common payments m years pattern flow words₀ rows₀ t₀ words rows t = Rowed m (λ t. rowReckoned (sharedIn common payments) (ratesOf (ratesAt years pattern t))) words rows t

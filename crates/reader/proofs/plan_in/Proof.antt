@@ -21,7 +21,22 @@ use Rattle.planfile.specs.Reading.{InRange}
 use Rattle.planfile.proofs.Checks.{none-missing, size-there}
 use Rattle.planfile.proofs.Kind.{past}
 use Rattle.planfile.proofs.Groups.{role-some}
-use Rattle.reader.proofs.Filling.{Turn, turn, planAfter, after-none, after-all, fill-head, fill-instrument, fill-outflows, fill-rollover, fill-pattern, fill-allocation, fill-opening}
+use Rattle.reader.proofs.Filling.{
+  Turn,
+  turn,
+  list-row,
+  slope-row,
+  planAfter,
+  after-none,
+  after-all,
+  fill-head,
+  fill-instrument,
+  fill-outflows,
+  fill-rollover,
+  fill-pattern,
+  fill-allocation,
+  fill-opening,
+}
 use Rattle.reader.proofs.plan_in.Statement.{statement}
 use Rattle.reader.proofs.plan_in.Tie as tie
 
@@ -97,16 +112,16 @@ module _ (c : tie.After-spot-at Inv-loop μ-loop) where
   unfolding roleOf nth groupsOf countOf
   instrument-few e = omega (arith, turned e .few, range .instruments-few)
 
-  pattern-few : kind d ≡ 5 → c .spot-at .result .index < 64
-  unfolding roleOf nth groupsOf countOf
-  pattern-few e = omega (arith, turned e .few, range .patterns-few)
+  pattern-few : {k : ℕ} → kind d ≡ k → roleOf k ≡ 5 → c .spot-at .result .index < 64
+  unfolding groupsOf countOf
+  pattern-few e r = omega (arith, rw r at (turned e .few), range .patterns-few)
 
 amounts-requires : tie.Need-amounts-requires Inv-loop μ-loop
 unfolding sizeOf nth
 amounts-requires c κs = let r = range (c .before) in let size = sized (c .before) (c .match2 .keys3) in (omega arith, omega arith)
 
-mul-t21 : tie.Need-mul-t21 Inv-loop μ-loop
-mul-t21 c = omega (arith, instrument-few (c .before .before) (c .before .match2 .keys3))
+mul-t22 : tie.Need-mul-t22 Inv-loop μ-loop
+mul-t22 c = omega (arith, instrument-few (c .before .before) (c .before .match2 .keys3))
 
 element-set-from-plan : tie.Need-element-set-from-plan Inv-loop μ-loop
 element-set-from-plan c = instrument-few (c .before .before) (c .before .match2 .keys3)
@@ -119,18 +134,20 @@ shares-requires : tie.Need-shares-requires Inv-loop μ-loop
 unfolding sizeOf nth
 shares-requires c κs = let r = range (c .before .before) in let size = sized (c .before .before) (c .before .match2 .keys5) in (omega arith, (omega arith, refl))
 
-sub-rates : tie.Need-sub-rates Inv-loop μ-loop
-sub-rates c = let r = range (c .before .before) in omega arith
+sub-list-in : tie.Need-sub-list-in Inv-loop μ-loop
+sub-list-in c = let r = range (c .before .before) in omega arith
 
-rates-requires : tie.Need-rates-requires Inv-loop μ-loop
+list-in-requires : tie.Need-list-in-requires Inv-loop μ-loop
 unfolding sizeOf nth
-rates-requires c κs = let r = range (c .before .before) in let size = sized (c .before .before) (c .before .match2 .keys6) in (omega arith, omega arith)
+list-in-requires c κs = let r = range (c .before .before) in let size = sized (c .before .before) (c .before .match2 .keys6) in (omega arith, omega arith)
 
-mul-t29 : tie.Need-mul-t29 Inv-loop μ-loop
-mul-t29 c = omega (arith, pattern-few (c .before .before .before) (c .before .before .match2 .keys6))
+mul-list : tie.Need-mul-list Inv-loop μ-loop
+unfolding roleOf nth
+mul-list c = omega (arith, pattern-few (c .before .before .before) (c .before .before .match2 .keys6) refl)
 
-element-set-from-plan-2 : tie.Need-element-set-from-plan-2 Inv-loop μ-loop
-element-set-from-plan-2 c = pattern-few (c .before .before .before) (c .before .before .match2 .keys6)
+element-set-from-list : tie.Need-element-set-from-list Inv-loop μ-loop
+unfolding roleOf nth
+element-set-from-list c = pattern-few (c .before .before .before) (c .before .before .match2 .keys6) refl
 
 shares-requires-2 : tie.Need-shares-requires-2 Inv-loop μ-loop
 unfolding sizeOf nth
@@ -139,6 +156,18 @@ shares-requires-2 c κs = let r = range (c .before .before) in let size = sized 
 amounts-requires-3 : tie.Need-amounts-requires-3 Inv-loop μ-loop
 unfolding sizeOf nth
 amounts-requires-3 c κs = let r = range (c .before) in let size = sized (c .before) (c .match2 .keys8) in (omega arith, omega arith)
+
+slope-in-requires : tie.Need-slope-in-requires Inv-loop μ-loop
+unfolding sizeOf nth
+slope-in-requires c κs = omega (arith, sized (c .before) (c .match2 .keys9))
+
+mul-slope : tie.Need-mul-slope Inv-loop μ-loop
+unfolding roleOf nth
+mul-slope c = omega (arith, pattern-few (c .before .before) (c .before .match2 .keys9) refl)
+
+element-set-from-slope : tie.Need-element-set-from-slope Inv-loop μ-loop
+unfolding roleOf nth
+element-set-from-slope c = pattern-few (c .before .before) (c .before .match2 .keys9) refl
 
 returns : tie.Need-returns Inv-loop μ-loop
 returns c =
@@ -165,9 +194,14 @@ put c =
     ∥ (λ u. u .2 ∙ fill-instrument _ _ p given (turned b (u .0 .keys3)) refl refl (u .1 .ensures) (instrument-few b (u .0 .keys3)))
     ∥ (λ u. u .2 ∙ fill-outflows _ _ p given (turned b (u .0 .keys4)) refl (u .1 .ensures))
     ∥ (λ u. u .4 ∙ fill-rollover _ _ p given (turned b (u .0 .keys5)) refl (u .2 .ensures))
-    ∥ (λ u. u .3 ∙ fill-pattern _ _ p given (turned b (u .0 .keys6)) refl refl (u .2 .ensures) (pattern-few b (u .0 .keys6)))
+    ∥ (λ u.
+    u .3 ∙ fill-pattern _ _ p given (turned b (u .0 .keys6)) refl refl (u .2 .ensures ∙ list-row _ _ _ (is b (u .0 .keys6)))
+    (pattern-few b (u .0 .keys6) refl))
     ∥ (λ u. u .4 ∙ fill-allocation _ _ p given (turned b (u .0 .keys7)) refl (u .2 .ensures))
     ∥ (λ u. u .2 ∙ fill-opening _ _ p given (turned b (u .0 .keys8)) refl (u .1 .ensures))
+    ∥ (λ u.
+    u .2 ∙ fill-pattern _ _ p given (turned b (u .0 .keys9)) refl refl (u .1 .ensures ∙ slope-row _ _ _ (is b (u .0 .keys9)))
+    (pattern-few b (u .0 .keys9) refl))
     ∥ (λ u. absurd (none b refl (nth-outside 0 roles _ (λ l. past (suc (length roles)) (u .0 .rest))))))
     (c .match2 .came)
 
@@ -195,18 +229,21 @@ plan-in-spec =
     body-at-requires
     (λ c κs. search needs)
     amounts-requires
-    mul-t21
+    mul-t22
     element-set-from-plan
     amounts-requires-2
     (λ c. search needs)
     shares-requires
-    sub-rates
-    rates-requires
-    mul-t29
-    element-set-from-plan-2
+    sub-list-in
+    list-in-requires
+    mul-list
+    element-set-from-list
     (λ c. search needs)
     shares-requires-2
     amounts-requires-3
+    slope-in-requires
+    mul-slope
+    element-set-from-slope
     (λ c. search needs)
     returns
     (λ c. search needs) (λ c. omega arith)

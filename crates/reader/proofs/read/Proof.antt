@@ -1,4 +1,4 @@
--- `reader::read` makes checks 1 to 5 on the records, and then 6 to 9 on the plan that they hold.
+-- `reader::read` makes checks 1 to 5 on the records, and then those on the plan that they hold.
 use mathlib.Core.Path.{_≡_, sym, ap, _∙_}
 use mathlib.Core.List.{List}
 use Prim.Native.Nat.{ℕ}
@@ -54,12 +54,12 @@ module _ (c : tie.After-refusal) where
 returns-2 : tie.Need-returns-2
 returns-2 c =
     let d = c .before .before in
-    told (else1 d .before .before) (c .refused2 .ensures ∙ refused-plan _ (none (else1 d)) (plan-is d) (d .refusal .ensures) (c .before .if2 .taken))
+    told (else1 d .before .before) (c .refused2 .ensures ∙ refused-plan _ (none (else1 d)) (plan-is d) (d .refusal .ensures .0) (c .before .if2 .taken))
 
 returns-3 : tie.Need-returns-3
 returns-3 c =
     let d = c .before in
-    told (else1 d .before .before) (accepted _ (none (else1 d)) (plan-is d) (sym (d .refusal .ensures) ∙ c .if2 .left))
+    told (else1 d .before .before) (accepted _ (none (else1 d)) (plan-is d) (sym (d .refusal .ensures .0) ∙ c .if2 .left))
 
 pub read-spec : {M : Type 1} → statement M
 read-spec =

@@ -2,7 +2,7 @@
 use mathlib.Core.Path.{_≡_, sym, _∙_}
 use native.Mathlib.Omega.{arith}
 use borrow.Author.Needs.{needs}
-use Rattle.plan.specs.Held.{shapeOf, held}
+use Rattle.plan.specs.Held.{shapeOf, held, Typed}
 use Rattle.plan.specs.Numbers.{numbers}
 use Rattle.plan.specs.Refusal.{refusalOf}
 use Rattle.plan.proofs.Checks.{accepted}
@@ -13,12 +13,15 @@ use Rattle.writer.proofs.write.Statement.{statement}
 use Rattle.writer.proofs.write.Tie as tie
 
 returns : tie.Need-returns
-returns c = refused-plan _ _ (c .before .refusal .ensures) (c .if1 .taken)
+returns c = refused-plan _ _ (c .before .refusal .ensures .0) (c .if1 .taken)
 
 -- the plan is not refused
 module _ (c : tie.Else1) where
   ok : refusalOf (numbers (c .before .before .before .args .plan)) ≡ 0
-  ok = sym (c .before .refusal .ensures) ∙ c .if1 .left
+  ok = sym (c .before .refusal .ensures .0) ∙ c .if1 .left
+
+  typed : Typed (c .before .before .before .args .plan)
+  typed = c .before .refusal .ensures .1 (c .if1 .left)
 
   range : InRange (shapeOf (c .before .before .before .args .plan))
   range = head-range (held (c .before .before .before .args .plan)) (accepted _ ok .head)
@@ -39,7 +42,7 @@ returns-3 c =
     let p = c .before .before in
     let e = p .before .before in
     let d = e .before in
-    written _ _ (ok (d .before)) (d .file-size .ensures) (p .put-file .ensures .is) (e .if2 .left)
+    written _ _ (ok (d .before)) (typed (d .before)) (d .file-size .ensures) (p .put-file .ensures .is) (e .if2 .left)
 
 pub write-spec : {M : Type 1} → statement M
 write-spec =
