@@ -125,31 +125,50 @@ def names_exit(clause, name):
 
 # ---- must-fail edits
 
+Step = collections.namedtuple("Step", "wrong file old new")
+UNPROVED = r"`(?:returns|loop\d*-holds|loop\d*-again)(?:-\d+)?`"
+NOTED = "it is not proved that what the function ensures holds when it returns"
+
+
 @functools.lru_cache(maxsize=None)
 def steps(text):
-    """The replacements of an edit: file, old text, new text. They are read as rt reads them."""
-    file = old = ""
+    """The replacements of an edit, read as rt reads them, each with the wrong program that it belongs to: a line `wrong: NAME`, which
+    rt passes over, begins one. An edit without such a line is one wrong program, without a name here."""
+    wrong = file = old = ""
     found = []
     for line in text.splitlines():
-        if line.startswith("file: "):
+        if line.startswith("wrong: "):
+            wrong = line[7:]
+        elif line.startswith("file: "):
             file = line[6:]
         elif line.startswith("old: "):
             old = line[5:]
         elif line.startswith("new:"):
-            found.append((file, old, line[5:] if line.startswith("new: ") else line[4:]))
+            found.append(Step(wrong, file, old, line[5:] if line.startswith("new: ") else line[4:]))
     return found
 
 
 @functools.lru_cache(maxsize=None)
 def changed(edit, file, text):
-    """The lines of a file that an edit changes. No replacement makes a line more or less."""
-    lines = set()
-    for _, old, new in [step for step in steps(edit) if step[0] == file]:
-        if not old or text.count(old) != 1:
-            raise Unread(f"its old text stands {text.count(old)} times in {file}: {old.strip()}")
-        lines.add(line_of(text, text.index(old)))
-        text = text.replace(old, new)
+    """The lines of a file that an edit changes, each with its wrong program. No replacement makes a line more or less."""
+    lines = []
+    for step in [step for step in steps(edit) if step.file == file]:
+        if not step.old or text.count(step.old) != 1:
+            raise Unread(f"its old text stands {text.count(step.old)} times in {file}: {step.old.strip()}")
+        lines.append((step.wrong, line_of(text, text.index(step.old))))
+        text = text.replace(step.old, step.new)
     return lines
+
+
+def unproved(log, file, function):
+    """The lines of a log at which a function's own result, or the start or the turn of one of its loops, is not proved: in its proof,
+    or in a note where it has no proof file."""
+    proof = re.compile(rf"\S*/proofs/\+?{function.name}/Proof\.antt:\d+:\d+: error: {UNPROVED}")
+    note = re.compile(rf"note: \S*/{re.escape(file)}:(\d+):\d+: {NOTED} \({UNPROVED}\)")
+    for line in log.splitlines():
+        noted = note.match(line)
+        if proof.match(line) or noted and function.first <= int(noted.group(1)) <= function.last:
+            yield line
 
 
 # ---- antt
