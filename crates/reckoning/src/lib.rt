@@ -52,10 +52,11 @@ fn sent(x: i64, r: i64, w: i64, i: i64) -> i64
     requires { ⌜ Within million i ⌝ }
     ensures { λ s. ⌜ s ≡ sentOf x r w i ⌝ }
 {
-    let a = whole::share(x, r);
-    let b = whole::share(x, w);
-    let c = whole::share(b, i);
-    a + c
+    // the two that wait for each other come first, which is faster (docs/DECISIONS.md, "The reckoning")
+    let invested = whole::share(x, w);
+    let interest = whole::share(invested, i);
+    let matured = whole::share(x, r);
+    matured + interest
 }
 
 // The first of the j cells before a cell that can send it anything, as older ones are past the q terms of the rollover; 0 where
