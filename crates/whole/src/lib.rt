@@ -3,7 +3,8 @@ ghost use mathlib.Core.Path.{_≡_};
 ghost use Rattle.whole.specs.Range.{million, limit, Within};
 ghost use Rattle.whole.specs.Floor.{floor, shareOf};
 
-// The greatest whole number not above z / 1,000,000: the quotient toward zero, less one where that lies above.
+// The greatest whole number not above z / 1,000,000: the quotient toward zero, less one where the remainder is negative, that is where
+// the quotient's product lies above z.
 pub fn down(z: i64) -> i64
     requires { ⌜ Within 1_000_000_000_000_000_000 z ⌝ }
     ensures { λ r. ⌜ r ≡ floor z million ⌝ }
