@@ -1,4 +1,4 @@
-"""What tests/entries and tests/rules read of the sources: functions with their contracts, must-fail edits, and what an .antt file declares.
+"""What the tests read of the sources: functions with their contracts, must-fail edits, and what an .antt file declares.
 
 Nothing here knows the project; every reader takes a text and answers what stands in it, with the lines where it stands.
 """
@@ -30,13 +30,19 @@ HEAD = re.compile(
     r"((?:#\[[^\]]*\]\s*)*)"  # attributes
     r'((?:pub(?:\([^)]*\))?\s+)?(?:(?:const|unsafe)\s+)*(?:extern\s*"[^"]*"\s+)?)'
     r"\bfn\s+(\w+)\s*(?:<[^(]*>)?\s*\(")
+QUOTED = re.compile(r"""//[^\n]*|/\*.*?\*/|"(?:\\.|[^"\\])*"|\bb'(?:\\.[^']*|[^'\\\n])'""", re.S)
 BRACKET = re.compile(r"[()\[\]{}]")
 CLAUSE = re.compile(r"\s*(requires|ensures)\b\s*[\w-]*\s*\{")
 
 
 def bare(text):
-    """The same text at the same places, without its comments and what stands in strings."""
-    return re.sub(r'//[^\n]*|/\*.*?\*/|"(?:\\.|[^"\\\n])*"', lambda found: re.sub(r'[^\n"]', " ", found.group()), text, flags=re.S)
+    """The same text at the same places, without its comments, bytes in quotes and what stands in strings."""
+    def blank(found):
+        if found.group().startswith("/*") and "/*" in found.group()[2:]:
+            raise Unread(f"line {line_of(text, found.start())}: a comment in a comment")
+        kept = '"' if found.group().startswith('"') else ""
+        return kept + re.sub(r"[^\n]", " ", found.group()[len(kept):len(found.group()) - len(kept)]) + kept
+    return QUOTED.sub(blank, text)
 
 
 def closed(text, opens):
