@@ -41,6 +41,7 @@ use Rattle.plan.specs.Refusal.{
   ratesRefusal,
   allocationRefusal,
   refusalOf,
+  refusalWith,
   Head,
   Accepted,
 }
@@ -237,6 +238,15 @@ accepted plan e =
       rates = rate-each plan (check-true (ratesOk P) 8 0 (omega arith) (check-rest (untilsOk P) 13 _ (omega arith) e₁₃));
       allocation = eqb-true _ _ (check-true (allocationOk P) 9 0 (omega arith) (first-next (ratesRefusal P) _ e₈));
     }
+
+-- a call with lists that is not refused: neither are its lists, nor the plan
+pub lists-pass : (P : Numbers) (lists : ℕ) → refusalWith P lists ≡ 0 → lists ≡ 0
+unfolding refusalWith
+lists-pass P lists e = first-none lists _ (first-next (ratesRefusal P) _ (first-next (amountsRefusal P) _ (first-next (headRefusal P) _ e)))
+
+pub plan-passes : (P : Numbers) (lists : ℕ) → refusalWith P lists ≡ 0 → refusalOf P ≡ 0
+unfolding refusalWith refusalOf
+plan-passes P lists e = rw (lists-pass P lists e) at e
 
 -- and what has all that is not refused
 module _ {P : Numbers} (ok : Accepted P) where

@@ -79,7 +79,7 @@ module _ (P : Numbers) where
   unfoldable pub allocationOk : Bool
   allocationOk = eqb (Σℕ 1 (P .instruments) (P .p)) million
 
-  -- ---- the number of the first check that fails; 0 if none does. A call with lists of its own has checks between these parts.
+  -- ---- the number of the first check that fails; 0 if none does
   -- the head
   unfoldable pub headRefusal : ℕ
   headRefusal =
@@ -109,6 +109,10 @@ module _ (P : Numbers) where
   -- the whole plan
   unfoldable pub refusalOf : ℕ
   refusalOf = firstOf headRefusal (firstOf amountsRefusal (firstOf ratesRefusal allocationRefusal))
+
+  -- the same for a call with lists of its own, whose refusal comes after that of the patterns (document 02, item 4)
+  unfoldable pub refusalWith : (lists : ℕ) → ℕ
+  refusalWith lists = firstOf headRefusal (firstOf amountsRefusal (firstOf ratesRefusal (firstOf lists allocationRefusal)))
 
 -- a head that check 3 takes
 pub record Head (P : Numbers) : Type 0 where

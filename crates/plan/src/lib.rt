@@ -9,7 +9,7 @@ ghost use Rattle.whole.specs.Test.{pick, all, isFrom, isBetween};
 ghost use Rattle.whole.specs.Table.{table};
 ghost use Rattle.plan.specs.Held.{flag, shapeOf, instrumentHeld, patternHeld, SlopeTyped, Typed};
 ghost use Rattle.plan.specs.Numbers.{paymentsMeant, slope, ratesMeant, numbers};
-ghost use Rattle.plan.specs.Refusal.{Head, shapeOk, paymentsOk, outflowsOk, openingOk, amountsOk, rolloverOk, untilsOk, ratesOk, allocationOk, headRefusal, amountsRefusal, ratesRefusal, allocationRefusal, refusalOf};
+ghost use Rattle.plan.specs.Refusal.{Head, shapeOk, paymentsOk, outflowsOk, openingOk, amountsOk, rolloverOk, untilsOk, ratesOk, allocationOk, headRefusal, amountsRefusal, ratesRefusal, allocationRefusal, refusalOf, refusalWith};
 
 // N, n, q and m, and which kinds are held that may be absent: what decides which records a plan file has.
 pub struct Shape {
@@ -88,7 +88,8 @@ pub fn payments(row: Instrument, years: usize) -> [i64; 30]
     v
 }
 
-fn wide(x: i32) -> i64
+// The same number, in 64 bits.
+pub fn wide(x: i32) -> i64
     ensures { λ s. ⌜ s ≡ x ⌝ }
 {
     x as i64
@@ -180,7 +181,7 @@ pub fn shape_ok(shape: Shape) -> bool
 }
 
 // Each of the first n amounts is at least `low` and at most `high`.
-fn amounts_ok(xs: &[i64], n: usize, low: i64, high: i64) -> bool
+pub fn amounts_ok(xs: &[i64], n: usize, low: i64, high: i64) -> bool
     requires { ⌜ n ≤ length (now xs) ⌝ }
     ensures { λ b. ⌜ b ≡ all n (λ k. isBetween low high (getD (now (xs .entry)) k (pos 0))) ⌝ }
 {
@@ -341,7 +342,7 @@ pub fn head_refusal(plan: Plan) -> u8
 }
 
 // That of the amounts and the rollover: 6 or 7, or 0.
-pub fn amounts_refusal(plan: Plan) -> u8
+fn amounts_refusal(plan: Plan) -> u8
     requires { ⌜ Head (numbers plan) ⌝ }
     ensures { λ s. ⌜ s ≡ amountsRefusal (numbers plan) ⌝ }
 {
@@ -355,7 +356,7 @@ pub fn amounts_refusal(plan: Plan) -> u8
 }
 
 // That of the patterns: 13 or 8, or 0.
-pub fn rates_refusal(plan: Plan) -> u8
+fn rates_refusal(plan: Plan) -> u8
     requires { ⌜ Head (numbers plan) ⌝ }
     ensures is { λ s. ⌜ s ≡ ratesRefusal (numbers plan) ⌝ }
     ensures typed { λ s. ⌜ (s ≡ 0 → Typed plan) ⌝ }
@@ -370,7 +371,7 @@ pub fn rates_refusal(plan: Plan) -> u8
 }
 
 // That of the allocation: 9, or 0.
-pub fn allocation_refusal(plan: Plan) -> u8
+fn allocation_refusal(plan: Plan) -> u8
     requires { ⌜ Head (numbers plan) ⌝ }
     ensures { λ s. ⌜ s ≡ allocationRefusal (numbers plan) ⌝ }
 {
@@ -380,9 +381,10 @@ pub fn allocation_refusal(plan: Plan) -> u8
     0
 }
 
-// The number of the first of the checks 3 and 6 to 9, with 13 right before 8, that the plan fails; 0 if none.
-pub fn refusal(plan: Plan) -> u8
-    ensures is { λ s. ⌜ s ≡ refusalOf (numbers plan) ⌝ }
+// The number of the first of the checks 3 and 6 to 9, with 13 right before 8, that the plan fails; 0 if none. `lists` is the refusal of a
+// call's own lists, 0 where there are none: it comes after 8 and before 9.
+pub fn refusal_with(plan: Plan, lists: u8) -> u8
+    ensures is { λ s. ⌜ s ≡ refusalWith (numbers plan) lists ⌝ }
     ensures typed { λ s. ⌜ (s ≡ 0 → Typed plan) ⌝ }
 {
     let head = head_refusal(plan);
@@ -397,5 +399,16 @@ pub fn refusal(plan: Plan) -> u8
     if rates != 0 {
         return rates;
     }
+    if lists != 0 {
+        return lists;
+    }
     allocation_refusal(plan)
+}
+
+// The same of a plan alone.
+pub fn refusal(plan: Plan) -> u8
+    ensures is { λ s. ⌜ s ≡ refusalOf (numbers plan) ⌝ }
+    ensures typed { λ s. ⌜ (s ≡ 0 → Typed plan) ⌝ }
+{
+    refusal_with(plan, 0)
 }
