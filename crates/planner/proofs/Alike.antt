@@ -7,19 +7,19 @@ use Rattle.whole.proofs.Entry.{entry-own}
 use Rattle.whole.proofs.Test.{all-yes}
 use Rattle.plan.specs.Held.{Held}
 use Rattle.plan.specs.Numbers.{Numbers, rateIn, meaning}
-use Rattle.plan.specs.Refusal.{check, firstOf, headOk, paymentsOk, paymentsFit, outflowsOk, openingOk, amountsOk, rolloverOk, untilsOk, ratesOk, ratesFit, allocationOk, headRefusal, amountsRefusal, ratesRefusal, allocationRefusal, refusalOf}
+use Rattle.plan.specs.Refusal.{check, firstOf, headOk, paymentsOk, paymentsFit, outflowsOk, openingOk, amountsOk, rolloverOk, untilsOk, ratesOk, ratesFit, allocationOk, headRefusal, amountsRefusal, ratesRefusal, allocationRefusal, refusalOf, refusalWith}
 use Rattle.planner.specs.Calls.{callRefusal, fundAnswer, boundOf, boundAnswer, formAnswer, gammasAnswer}
 use Rattle.planner.specs.Verdict.{patternWord, rowOf, verdictRefusal, shortBits, planWord, verdictAnswer, rowsOf, judgementOf}
 use Rattle.planner.specs.Alike.{spelledOut, meant, SameAnswers, Alike}
 
--- without check 13 the first refusal is the same, unless it was 13
-drop-13 : (head amounts : ℕ) (untils rates : Bool) (allocation : ℕ)
+-- without check 13 the first refusal is the same, unless it was 13; whatever comes after the patterns
+drop-13 : (head amounts : ℕ) (untils rates : Bool) (allocation after : ℕ)
     → (firstOf head (firstOf amounts (firstOf (check untils 13 (check rates 8 0)) allocation)) ≡ 13 → ⊥)
-    → firstOf head (firstOf amounts (firstOf (check untils 13 (check rates 8 0)) allocation)) ≡ firstOf head (firstOf amounts (firstOf (check rates 8 0) allocation))
-drop-13 (suc n) amounts untils rates allocation h = refl
-drop-13 zero (suc n) untils rates allocation h = refl
-drop-13 zero zero true rates allocation h = refl
-drop-13 zero zero false rates allocation h = absurd (h refl)
+    → firstOf head (firstOf amounts (firstOf (check untils 13 (check rates 8 0)) after)) ≡ firstOf head (firstOf amounts (firstOf (check rates 8 0) after))
+drop-13 (suc n) amounts untils rates allocation after h = refl
+drop-13 zero (suc n) untils rates allocation after h = refl
+drop-13 zero zero true rates allocation after h = refl
+drop-13 zero zero false rates allocation after h = absurd (h refl)
 
 -- a plan and what it means
 module _ (P : Numbers) (no : refusalOf P ≡ 13 → ⊥) where
@@ -29,7 +29,13 @@ module _ (P : Numbers) (no : refusalOf P ≡ 13 → ⊥) where
 
   refusal-meant : refusalOf P ≡ refusalOf (meant P)
   unfolding refusalOf headRefusal amountsRefusal ratesRefusal allocationRefusal headOk paymentsOk paymentsFit outflowsOk openingOk amountsOk rolloverOk ratesOk ratesFit allocationOk
-  refusal-meant = rw untils-meant (drop-13 (headRefusal P) (amountsRefusal P) (untilsOk P) (ratesOk P) (allocationRefusal P) no)
+  refusal-meant = rw untils-meant (drop-13 (headRefusal P) (amountsRefusal P) (untilsOk P) (ratesOk P) (allocationRefusal P) (allocationRefusal P) no)
+
+  -- and of a call with lists
+  pub refusal-with-meant : (lists : ℕ) → refusalWith P lists ≡ refusalWith (meant P) lists
+  unfolding refusalOf refusalWith headRefusal amountsRefusal ratesRefusal allocationRefusal headOk paymentsOk paymentsFit outflowsOk openingOk amountsOk rolloverOk ratesOk ratesFit
+      allocationOk
+  refusal-with-meant lists = rw untils-meant (drop-13 (headRefusal P) (amountsRefusal P) (untilsOk P) (ratesOk P) (allocationRefusal P) (firstOf lists (allocationRefusal P)) no)
 
   same-meant : SameAnswers P (meant P)
   unfolding fundAnswer boundAnswer boundOf formAnswer gammasAnswer callRefusal verdictAnswer planWord shortBits patternWord rowsOf rowOf judgementOf verdictRefusal
@@ -73,7 +79,7 @@ rated P i = record {
 }
 
 -- a list of the rates that a pattern means has just these, and no T that check 13 looks at
-spelled-meant : (H : Held) → meaning (spelledOut H) ≡ meant (meaning H)
+pub spelled-meant : (H : Held) → meaning (spelledOut H) ≡ meant (meaning H)
 spelled-meant H =
     let N = H .shape .years in
     ap (λ (i : ℕ → ℕ → ℤ). rated (meaning H) i)

@@ -186,6 +186,14 @@ module _ (plan : Plan) (ok : Accepted (numbers plan)) where
     pub rates-are : ratesOf i ≡ P .i t
     rates-are = rw e (rates-held t)
 
+  module _ {f : List ℤ} (e : f ≡ flowArray (sharedOf P)) where
+    pub flow-ready : Amounts f
+    unfolding flowArray
+    flow-ready = rw e (amounts (λ k. flowOf (sharedOf P) (1 + k)) (λ k. flow-within ok (1 + k)))
+
+    pub flow-are : amountsOf f ≡ flowOf (sharedOf P)
+    flow-are = rw e flow-held
+
 -- ---- what is prepared, with any rates and with the allocation's flow, can be reckoned
 module _ {c : Common} {rows : List (List ℤ)} (p : Prepared c rows) where
   pub ready : {i : List ℤ} → Rates i → Ready (c .terms) (c .rollover) (c .weights) i

@@ -41,7 +41,7 @@ meant P = record {
   T = λ t. 1;
 }
 
--- every call answers the same
+-- every call on a fund answers the same
 pub record SameAnswers (P Q : Numbers) : Type 0 where
   pub fund : (t : ℕ) → fundAnswer P t ≡ fundAnswer Q t
   pub bound : (t : ℕ) → boundAnswer P t ≡ boundAnswer Q t

@@ -16,7 +16,7 @@ ghost use Rattle.reckoning.specs.Arrays.{sharesOf, ratesOf, amountsOf, Years, R
 ghost use Rattle.plan.specs.Held.{PlainHeld, held};
 ghost use Rattle.plan.specs.Numbers.{numbers};
 ghost use Rattle.plan.specs.Refusal.{Accepted};
-ghost use Rattle.planner.specs.Calls.{noForm, formReckoned, callRefusal, fundAnswer, boundAnswer, gammasAnswer, formAnswer};
+ghost use Rattle.planner.specs.Calls.{noForm, sharedOf, formReckoned, callRefusal, fundAnswer, boundAnswer, gammasAnswer, formAnswer};
 ghost use Rattle.planner.specs.Verdict.{short, wordOf, bitsOf, noPatternRow, planWordOf, verdictAnswer, judgementOf};
 ghost use Rattle.planner.specs.Arrays.{rolloverArray, ratesArray, constantArray, paymentsRows, commonOf, sharedIn, flowArray, columnOf, Weighable, Prepared};
 ghost use Rattle.planner.specs.Rows.{coefficientsReckoned, refusedRow, rowReckoned, noJudgement, verdictOf};
@@ -186,6 +186,17 @@ fn flow_of(common: Common, payments: &[[i64; 30]; 16]) -> [i64; 30]
         v[k] = whole::down(z) + constant[k];
     }
     v
+}
+
+// The allocation's flow of a plan that was already checked: the project's own leaf and no entry.
+pub fn allocation_flow(plan: Plan) -> [i64; 30]
+    requires { ⌜ Accepted (numbers plan) ⌝ }
+    ensures { λ s. ⌜ s ≡ flowArray (sharedOf (numbers plan)) ⌝ }
+{
+    let constant = constant_flow_of(plan);
+    let common = common_of(plan, constant);
+    let payments = payments_of(plan);
+    flow_of(common, &payments)
 }
 
 // ---- one pattern, at the rates i
@@ -414,7 +425,7 @@ pub struct Judgement {
 }
 
 // The word of a fund z with the bound b, against c: solvent from c on, short where z + b is c or less, else close.
-fn word_of(z: i64, b: i64, c: i64) -> u8
+pub fn word_of(z: i64, b: i64, c: i64) -> u8
     requires { ⌜ Within limit z ⌝ }
     requires { ⌜ Between (pos 0) (pos 4_294_967_296) b ⌝ }
     ensures { λ w. ⌜ w ≡ wordOf z b c ⌝ }

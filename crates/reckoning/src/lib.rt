@@ -96,7 +96,7 @@ fn cell(
 }
 
 // Check 11 takes z: its limit, 10^12 on either side, is taken, and one more is not.
-fn fits(z: i64) -> bool
+pub fn fits(z: i64) -> bool
     ensures { λ b. ⌜ b ≡ isWithin limit z ⌝ }
 {
     if z > 1_000_000_000_000 {
@@ -173,7 +173,7 @@ fn size(x: i64) -> i64
 }
 
 // h: the largest of the rates i_2 to i_n, without their signs; 0 where n is 1.
-fn largest(i: &[i64; 30], n: usize) -> i64
+pub fn largest(i: &[i64; 30], n: usize) -> i64
     requires { ⌜ Rates (now i) ⌝ }
     requires { ⌜ Years n ⌝ }
     ensures { λ s. ⌜ s ≡ pos (largestOf (ratesOf (now (i .entry))) n) ⌝ }
