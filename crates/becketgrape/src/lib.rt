@@ -47,7 +47,7 @@ pub extern "C" fn planner_read(
     ensures kept { λ r. ⌜ (r ≡ 0 → OneFile (now (file .entry))
         (planOfArrays (now (counts .exit)) (now (amounts .exit)) (now (shares .exit)) (now (rates .exit)))) ⌝ }
 {
-    let found = reader::read(file);
+    let found = reader::read(file, true);
     let plan = found.plan;
     arrays::put_counts(plan, counts);
     arrays::put_amounts(plan, amounts);
@@ -85,7 +85,7 @@ pub extern "C" fn planner_write(
 fn fund_of_file(file: &[u8], t: usize) -> Reckoned
     ensures { λ s. ⌜ s ≡ fundOfFile (now (file .entry)) t ⌝ }
 {
-    let found = reader::read(file);
+    let found = reader::read(file, true);
     let no = found.refusal;
     if no != 0 {
         return Reckoned {
@@ -112,7 +112,7 @@ pub extern "C" fn planner_fund(file: &[u8], pattern: usize, fund: &mut i64) -> u
 fn bound_of_file(file: &[u8], t: usize) -> BoundAnswer
     ensures { λ s. ⌜ s ≡ boundOfFile (now (file .entry)) t ⌝ }
 {
-    let found = reader::read(file);
+    let found = reader::read(file, true);
     let no = found.refusal;
     if no != 0 {
         return BoundAnswer {
@@ -138,7 +138,7 @@ pub extern "C" fn planner_bound(file: &[u8], pattern: usize, bound: &mut i64) ->
 fn form_of_file(file: &[u8], t: usize) -> FormAnswer
     ensures { λ s. ⌜ s ≡ formOfFile (now (file .entry)) t ⌝ }
 {
-    let found = reader::read(file);
+    let found = reader::read(file, true);
     let no = found.refusal;
     if no != 0 {
         return FormAnswer {
@@ -179,7 +179,7 @@ pub extern "C" fn planner_form(
 fn gammas_of_file(file: &[u8], t: usize) -> GammaTable
     ensures { λ s. ⌜ s ≡ gammasOfFile (now (file .entry)) t ⌝ }
 {
-    let found = reader::read(file);
+    let found = reader::read(file, true);
     let no = found.refusal;
     if no != 0 {
         let none = Row { values: [0i64; 30] };
@@ -209,7 +209,7 @@ pub extern "C" fn planner_gammas(file: &[u8], pattern: usize, gammas: &mut [i64;
 fn verdict_of_file(file: &[u8]) -> VerdictAnswer
     ensures { λ s. ⌜ s ≡ verdictOfFile (now (file .entry)) ⌝ }
 {
-    let found = reader::read(file);
+    let found = reader::read(file, true);
     let no = found.refusal;
     if no != 0 {
         return VerdictAnswer {

@@ -229,7 +229,7 @@ pub fn list(file: &[u8], out: &mut [u8; 32768]) -> usize
     ensures counts { λ r. ⌜ Counts r (now (out .exit)) ⌝ }
     ensures demands { λ _. ⌜ Demands (now (file .entry)) ⌝ }
 {
-    let found = reader::read(file);
+    let found = reader::read(file, true);
     let no = found.refusal;
     if no != 0 {
         return put_refused(out, no);

@@ -1,4 +1,4 @@
--- What a file that is read without a refusal has.
+-- What a file has whose records are read without a refusal, and one that is read whole.
 use mathlib.Core.Path.{_≡_, refl, ap, _∙_, subst}
 use mathlib.Core.Bool.{false}
 use mathlib.Core.List.{List}
@@ -15,7 +15,7 @@ use Rattle.planfile.specs.declared.ReadAnswer.{ReadAnswer}
 use Rattle.planfile.specs.Checks.{shapeIn, layoutRefusal}
 use Rattle.planfile.specs.Records.{recordIn, heldOf, heldIn, fileOf}
 use Rattle.planfile.specs.Reading.{Laid}
-use Rattle.planfile.specs.Read.{numbersIn, readRefusal, readAnswer}
+use Rattle.planfile.specs.Read.{numbersIn, recordsAnswer, readRefusal, readAnswer}
 use Rattle.planfile.proofs.Checks.{layout-laid}
 use Rattle.planfile.proofs.Roles.{tidy-read}
 use Rattle.planfile.proofs.Trips.{file-again, held-read, typed-plan}
@@ -29,6 +29,20 @@ pub plain-unopened : (s : List ℕ) → PlainHeld (heldIn s) → shapeIn s .open
 unfolding heldIn heldOf
 plain-unopened s e = e .opened
 
+-- ---- checks 1 to 5 alone
+module _ (s : List ℕ) (e : recordsAnswer s .refusal ≡ 0) where
+  pub records-none : layoutRefusal s ≡ 0
+  unfolding recordsAnswer
+  records-none = not-refused _ _ (λ (a : ReadAnswer). a .refusal) (λ n. refl) _ e
+
+  pub records-plan : recordsAnswer s .plan ≡ planFrom (heldIn s)
+  unfolding recordsAnswer
+  records-plan = ap (λ (a : ReadAnswer). a .plan) (answer-accepted _ _ _ records-none)
+
+  pub records-numbers : numbers (recordsAnswer s .plan) ≡ numbersIn s
+  records-numbers = ap meaning (ap held records-plan ∙ held-read s (layout-laid s records-none .range))
+
+-- ---- all checks
 module _ (s : List ℕ) (e : readAnswer s .refusal ≡ 0) where
   none-refused : readRefusal s ≡ 0
   unfolding readAnswer

@@ -14,7 +14,7 @@ ghost use Rattle.plan.specs.Held.{noPlan, planFrom};
 ghost use Rattle.planfile.specs.Groups.{groupsOf};
 ghost use Rattle.planfile.specs.Checks.{hasRole, shapeIn, firstOk, rolesOk, sizesOk, layoutRefusal};
 ghost use Rattle.planfile.specs.Records.{recordIn, heldOf};
-ghost use Rattle.planfile.specs.Read.{readAnswer};
+ghost use Rattle.planfile.specs.Read.{readingOf};
 ghost use Rattle.planfile.specs.Demand2.{OneFile};
 ghost use Rattle.planfile.specs.Reading.{InRange, Laid};
 ghost use Rattle.reader.specs.Reading.{Inside, partOf, headIn, amountsRead, ratesRead, sharesRead, listRead, slopeRead};
@@ -434,16 +434,20 @@ fn refused(number: u8) -> ReadAnswer
     }
 }
 
-// The plan that a file holds, or the number of the first of the checks 1 to 9, with 13 right before 8, that the file fails.
-pub fn read(file: &[u8]) -> ReadAnswer
-    ensures is { λ r. ⌜ r ≡ readAnswer (now (file .entry)) ⌝ }
-    ensures kept { λ r. ⌜ (r .refusal ≡ 0 → OneFile (now (file .entry)) (r .plan)) ⌝ }
+// The plan that a file holds, or the number of the first check that the file fails: 1 to 5 on its records and, where `checked`, those on its
+// numbers, 6 to 9 with 13 right before 8. A call with lists of its own makes these itself, as it has checks between them.
+pub fn read(file: &[u8], checked: bool) -> ReadAnswer
+    ensures is { λ r. ⌜ r ≡ readingOf (now (file .entry)) checked ⌝ }
+    ensures kept { λ r. ⌜ (checked ≡ true → r .refusal ≡ 0 → OneFile (now (file .entry)) (r .plan)) ⌝ }
 {
     let layout = layout_refusal(file);
     if layout != 0 {
         return refused(layout);
     }
     let plan = plan_in(file, shape_in(file));
+    if !checked {
+        return ReadAnswer { refusal: 0, plan };
+    }
     let refusal = plan::refusal(plan);
     if refusal != 0 {
         return refused(refusal);

@@ -12,7 +12,7 @@ returns c =
     let counts = amounts .before .before in
     let read = counts .before .before .before .read in
     let is = read .ensures .0 in
-    let kept = arrays-kept is (read .ensures .1) (counts .put-counts .ensures) (amounts .put-amounts .ensures) (shares .put-shares .ensures) (c .put-rates .ensures) in
+    let kept = arrays-kept is (read .ensures .1 refl) (counts .put-counts .ensures) (amounts .put-amounts .ensures) (shares .put-shares .ensures) (c .put-rates .ensures) in
     rw (← is) (refl, (counts .put-counts .ensures, (amounts .put-amounts .ensures, (shares .put-shares .ensures, (c .put-rates .ensures, kept)))))
 
 pub planner-read-spec : {M : Type 1} → statement M
