@@ -43,25 +43,26 @@ extern "C" {
  * handlers use comes on top. It is not proved: tests/stack reads it off the compiled code, over every path, and measures it. */
 #define PLANNER_STACK_BYTES 98304
 
-/* What a call answers, by number: the checks in their order, but for 13, which stands right before 8. */
+/* What a call answers, by number: the checks in their order, but for 13, which stands right before 8, and 14, right after it. */
 enum planner_refusal {
     PLANNER_ACCEPTED = 0,
     PLANNER_FILE_TOO_LONG = 1,   /* the file is longer than PLANNER_FILE_BYTES */
     PLANNER_FILE_CUT = 2,        /* the last record is not whole */
     PLANNER_HEAD = 3,            /* the head is missing or not four bytes, or a number in it is outside its range */
     PLANNER_KINDS = 4,           /* the sequence of kinds is not that of a plan */
-    PLANNER_LENGTH = 5,          /* a record's length is not what its kind and the head require */
+    PLANNER_LENGTH = 5,          /* a record's length is not what its kind and the head require, or a list has not N - 1 rates */
     PLANNER_AMOUNT = 6,          /* a payment, an outflow or an amount of the opening is outside its range */
     PLANNER_ROLLOVER = 7,        /* the rollover shares do not sum to 1,000,000 */
-    PLANNER_RATE = 8,            /* a rate that is listed or that a slope means is below 0 or above 200,000 */
+    PLANNER_RATE = 8,            /* a rate that is listed, that a slope means or of a call's own list is below 0 or above 200,000 */
     PLANNER_ALLOCATION = 9,      /* the allocation does not sum to 1,000,000 */
     PLANNER_PATTERN = 10,        /* the pattern number is outside 1 to m */
-    PLANNER_OUT_OF_LIMIT = 11,   /* a cell or a fund is outside +-1,000,000,000,000 */
+    PLANNER_OUT_OF_LIMIT = 11,   /* a cell, a fund or a cash account is outside +-1,000,000,000,000 */
     PLANNER_BUFFER_TOO_SHORT = 12, /* the buffer is shorter than the file that goes into it */
-    PLANNER_SLOPE = 13           /* the T of a slope is outside 1 to 30 */
+    PLANNER_SLOPE = 13,          /* the T of a slope is outside 1 to 30 */
+    PLANNER_BORROWING = 14       /* a borrowing rate is below the lending rate of its year */
 };
 
-/* What is said of a pattern, and of a plan. */
+/* What is said of a pattern, and of a plan. Of a cash account the words say the same, with the exact account in the place of the fund. */
 enum planner_word {
     PLANNER_SOLVENT = 1, /* the exact fund is zero or more, in this pattern or in every one */
     PLANNER_SHORT = 2,   /* the exact fund is below zero, in this pattern or in some one */
@@ -169,6 +170,16 @@ uint8_t planner_gammas(const uint8_t *file, size_t file_length, size_t pattern,
  * and 13. */
 uint8_t planner_verdict(const uint8_t *file, size_t file_length,
                         uint8_t words[PLANNER_AT_LEAST(PLANNER_PATTERNS)], uint64_t *shorts, uint8_t *word);
+
+/* The cash account of an operator who does not reinvest: what is left over at the end of a year is lent, what is missing is borrowed. Each
+ * list has the rates of years 2 to N, N - 1 of them, none where N is 1; rates of either list are 0 to 200,000, and none of the borrowing
+ * list is below the lending rate of its year. Answers the account at the end of year N, never above the exact one and below it by less than
+ * the bound; the bound; and the word, which the two make as a fund and B do. The plan's patterns are checked and have no part in it.
+ * Refusals 1 to 9, 11, 13 and 14; a list of another length is refused 5, after the file's own 5, and 8 and 14 come before 9. */
+uint8_t planner_cash(const uint8_t *file, size_t file_length,
+                     const int32_t *lending, size_t lending_length,
+                     const int32_t *borrowing, size_t borrowing_length,
+                     int64_t *account, int64_t *bound, uint8_t *word);
 
 /* planner_read and planner_write on a struct. */
 static inline uint8_t planner_read_plan(const uint8_t *file, size_t file_length, struct planner_plan *plan)

@@ -1,4 +1,5 @@
 // The planner for programs in C: every call over a plan file's bytes, its answer in lent buffers. include/planner.h declares them.
+use cash::CashAnswer;
 use planner::BoundAnswer;
 use planner::FormAnswer;
 use planner::VerdictAnswer;
@@ -11,12 +12,15 @@ ghost use Rattle.io.specs.Counts.{Counts};
 ghost use Rattle.listing.specs.Text.{textOf};
 ghost use Rattle.listing.specs.Putting.{Listed};
 ghost use Rattle.listing.specs.Demands.{Demands};
+ghost use Rattle.planfile.specs.Records.{heldIn};
 ghost use Rattle.planfile.specs.Read.{numbersIn, readAnswer};
 ghost use Rattle.planfile.specs.Write.{writeAnswer, bufferAfter};
 ghost use Rattle.planfile.specs.Demand2.{OneFile};
 ghost use Rattle.arrays.specs.Arrays.{allCounts, allAmounts, allShares, allRates, allGammas, planOfArrays};
 ghost use Rattle.planner.specs.Demand3.{FundNear, FormNear, VerdictTrue};
-ghost use Rattle.becketgrape.specs.Calls.{fundOfFile, boundOfFile, formOfFile, gammasOfFile, verdictOfFile};
+ghost use Rattle.cash.specs.Theorem.{NearEveryYear, CashTrue};
+ghost use Rattle.cash.specs.Alike.{CashAlike};
+ghost use Rattle.becketgrape.specs.Calls.{fundOfFile, boundOfFile, formOfFile, gammasOfFile, verdictOfFile, cashOfFile};
 
 // The listing of a file, in the first bytes of `out`: how many they are.
 #[no_mangle]
@@ -244,5 +248,52 @@ pub extern "C" fn planner_verdict(
     *shorts = bits;
     let own = answer.word;
     *word = own;
+    answer.refusal
+}
+
+// ---- the cash account
+
+// The refusal of the file's records, or the answer for the plan that they hold and the two lists.
+fn cash_of_file(file: &[u8], lending: &[i32], borrowing: &[i32]) -> CashAnswer
+    ensures { λ s. ⌜ s ≡ cashOfFile (now (file .entry)) (now (lending .entry)) (now (borrowing .entry)) ⌝ }
+{
+    let found = reader::read(file, false);
+    let no = found.refusal;
+    if no != 0 {
+        return CashAnswer {
+            refusal: no,
+            account: 0,
+            bound: 0,
+            word: 0,
+        };
+    }
+    let plan = found.plan;
+    cash::cash(plan, lending, borrowing)
+}
+
+// The cash account, never above the exact one and below it by less than its bound, and its word, which is true of the exact account.
+#[no_mangle]
+pub extern "C" fn planner_cash(
+    file: &[u8],
+    lending: &[i32],
+    borrowing: &[i32],
+    account: &mut i64,
+    bound: &mut i64,
+    word: &mut u8,
+) -> u8
+    ensures is { λ r. ⌜ record { refusal = r; account = now (account .exit); bound = now (bound .exit); word = now (word .exit) }
+        ≡ cashOfFile (now (file .entry)) (now (lending .entry)) (now (borrowing .entry)) ⌝ }
+    ensures near { λ r. ⌜ CashTrue (numbersIn (now (file .entry))) (now (lending .entry)) (now (borrowing .entry))
+        (record { refusal = r; account = now (account .exit); bound = now (bound .exit); word = now (word .exit) }) ⌝ }
+    ensures theorem { λ _. ⌜ NearEveryYear ⌝ }
+    ensures alike { λ _. ⌜ CashAlike (heldIn (now (file .entry))) (now (lending .entry)) (now (borrowing .entry)) ⌝ }
+{
+    let answer = cash_of_file(file, lending, borrowing);
+    let v = answer.account;
+    *account = v;
+    let g = answer.bound;
+    *bound = g;
+    let said = answer.word;
+    *word = said;
     answer.refusal
 }
