@@ -1,5 +1,6 @@
-/* The driver of tests/calls: takes requests from standard input, makes every call of planner.h on each, and prints what it got, a
- * line a call. A request is struct request as it stands, then the bytes of the file.
+/* The driver of tests/calls: takes requests from standard input, makes every call of planner.h on each, or only that for the cash
+ * account, and prints what it got, a line a call. A request is struct request as it stands, then the bytes of the file, the lending
+ * rates and the borrowing rates.
  *
  * What is lent to be read ends where memory ends, so that reading past it stops the driver. What is lent to be filled lies between
  * guards; it and they hold known bytes before the call. A line ends in ` guards` if one of these changed, and in ` lent` if what
@@ -17,11 +18,12 @@
 enum {
     GAMMAS = PLANNER_YEARS * PLANNER_YEARS,
     GUARD = 64,
+    LIST = 1024, /* the most rates in a list of a request */
     SECONDS = 20 /* for all calls of a request */
 };
 
 struct request {
-    uint64_t file_length, pattern, room, fill;
+    uint64_t file_length, lending_length, borrowing_length, only_cash, pattern, room, fill;
     size_t counts[PLANNER_COUNTS];
     int64_t amounts[PLANNER_AMOUNTS];
     uint32_t shares[PLANNER_SHARES];
@@ -275,27 +277,52 @@ static void call_verdict(const uint8_t *bytes)
     end();
 }
 
+static void call_cash(const uint8_t *bytes, const int32_t *lending, const int32_t *borrowing)
+{
+    begin("cash");
+    const uint8_t *file = source(bytes, request.file_length);
+    lending = source(lending, request.lending_length * sizeof *lending);
+    borrowing = source(borrowing, request.borrowing_length * sizeof *borrowing);
+    int64_t *account = target(sizeof *account), *bound = target(sizeof *bound);
+    uint8_t *word = target(1);
+    put(planner_cash(file, request.file_length, lending, request.lending_length, borrowing, request.borrowing_length,
+                     account, bound, word));
+    put_signed(account, 1);
+    put_signed(bound, 1);
+    put(*word);
+    end();
+}
+
+/* Takes `count` elements of a request, of which there can be `most`. */
+static void take(void *to, size_t size, size_t count, size_t most)
+{
+    need(count <= most, "the request is too long");
+    need(fread(to, size, count, stdin) == count, "the request is cut");
+}
+
 int main(void)
 {
     static uint8_t bytes[1 << 17];
-    map_source(&sources[0], sizeof bytes);
-    map_source(&sources[1], sizeof request.counts);
-    map_source(&sources[2], sizeof request.amounts);
-    map_source(&sources[3], sizeof request.shares);
-    map_source(&sources[4], sizeof request.rates);
+    static int32_t lending[LIST], borrowing[LIST];
+    for (size_t s = 0; s < sizeof sources / sizeof *sources; s++)
+        map_source(&sources[s], sizeof bytes); /* the most that any has to hold */
     while (fread(&request, sizeof request, 1, stdin) == 1) {
-        need(request.file_length <= sizeof bytes, "the file is too long");
-        need(fread(bytes, 1, request.file_length, stdin) == request.file_length, "the request is cut");
+        take(bytes, 1, request.file_length, sizeof bytes);
+        take(lending, sizeof *lending, request.lending_length, LIST);
+        take(borrowing, sizeof *borrowing, request.borrowing_length, LIST);
         alarm(SECONDS);
-        call_read(bytes);
-        call_write();
-        call_again(bytes);
-        call_amount("fund", planner_fund, bytes);
-        call_amount("bound", planner_bound, bytes);
-        call_form(bytes);
-        call_gammas(bytes);
-        call_verdict(bytes);
-        call_list(bytes);
+        if (!request.only_cash) {
+            call_read(bytes);
+            call_write();
+            call_again(bytes);
+            call_amount("fund", planner_fund, bytes);
+            call_amount("bound", planner_bound, bytes);
+            call_form(bytes);
+            call_gammas(bytes);
+            call_verdict(bytes);
+            call_list(bytes);
+        }
+        call_cash(bytes, lending, borrowing);
         fflush(stdout);
         alarm(0);
     }

@@ -1,11 +1,12 @@
-"""Document 01, with the money already invested and the rising and falling rates of document 02, in unbounded whole numbers: what a
-plan file is read as, what each call answers, what the program prints.
+"""Document 01, with the money already invested, the rising and falling rates and the cash account of document 02, in unbounded whole
+numbers: what a plan file is read as, what each call answers, what the program prints. The exact account of the cash is in fractions.
 
 Written from the papers alone. It is slow and plain on purpose: every sum is the paper's sum, and nothing is cut short.
 """
 import collections
 import copy
 import struct
+from fractions import Fraction
 
 MILLION = 10 ** 6
 LIMIT = 10 ** 12
@@ -154,8 +155,18 @@ def head(N, n, q, m):
         raise Refused(3)
 
 
-def check(plan):
-    """Checks 6, 7, 13, 8 and 9."""
+def read_with_lists(data, lending, borrowing):
+    """The plan of a file that comes with the two lists of a cash account, each of the rates for years 2 to N; checks 1 to 9, with 5 on
+    the lists right after 5 on the records, 13 right before 8 and 14 right after 8."""
+    plan = numbers_of(data)
+    if len(lending) != plan.N - 1 or len(borrowing) != plan.N - 1:
+        raise Refused(5)
+    check(plan, lending, borrowing)
+    return plan
+
+
+def check(plan, lending=(), borrowing=()):
+    """Checks 6, 7, 13, 8, 14 and 9. Where a call has lists of rates, 8 covers these too; 14 is on them alone."""
     most = 20 * 10 ** 9
     if any(not 0 <= x <= most for row in plan.payments for x in row) or any(not -most <= x <= most for x in plan.outflows):
         raise Refused(6)
@@ -165,8 +176,10 @@ def check(plan):
         raise Refused(7)
     if any(isinstance(one, Slope) and not 1 <= one.until <= 30 for one in plan.patterns):
         raise Refused(13)
-    if any(not 0 <= rate <= 200000 for one in plan.patterns for rate in meant(one, plan.N)):
+    if any(not 0 <= rate <= 200000 for one in [*plan.patterns, lending, borrowing] for rate in meant(one, plan.N)):
         raise Refused(8)
+    if any(owed < earned for earned, owed in zip(lending, borrowing)):
+        raise Refused(14)
     if sum(plan.allocation) != MILLION:
         raise Refused(9)
 
@@ -267,9 +280,14 @@ def fund(plan, t, flow):
 # ---- Tilley's exact fund
 
 
+def uncut(plan):
+    """x_1 to x_N: 1,000,000 times the flow, nothing cut off."""
+    return {k: sum(plan.a(k, j) * plan.p(j) for j in range(1, plan.n + 1)) + MILLION * (plan.b(k) - plan.o(k)) for k in years(plan)}
+
+
 def exact(plan, t):
     """H: the exact fund is H / 10^(12 N)."""
-    x = {k: sum(plan.a(k, j) * plan.p(j) for j in range(1, plan.n + 1)) + MILLION * (plan.b(k) - plan.o(k)) for k in years(plan)}
+    x = uncut(plan)
     E, i = {}, plan.i(t)
     for k in range(2, plan.N + 2):
         E[k] = x[k - 1] * 10 ** (12 * (k - 2)) + sum(
@@ -340,7 +358,71 @@ def listing(data):
     return printed(rows, plan_word)
 
 
-# ---- what is refused through the opening or through slopes
+# ---- the cash account
+
+
+def rate_of(before, t, lending, borrowing):
+    """The rate of year t, by the account of the year before; the lists begin with year 2."""
+    return lending[t - 2] if before >= 0 else borrowing[t - 2]
+
+
+def account(plan, lending, borrowing):
+    """V(1) to V(N), whatever they come to."""
+    x, V = flow(plan), {}
+    for t in years(plan):
+        V[t] = x[t] if t == 1 else V[t - 1] + share(V[t - 1], rate_of(V[t - 1], t, lending, borrowing)) + x[t]
+    return V
+
+
+def exact_account(plan, lending, borrowing):
+    """Equation 2.2 of document 000 from the uncut flows, with its rate by its own sign."""
+    x, X = uncut(plan), {}
+    for t in years(plan):
+        X[t] = Fraction(x[t], MILLION)
+        if t > 1:
+            X[t] += X[t - 1] * (1 + Fraction(rate_of(X[t - 1], t, lending, borrowing), MILLION))
+    return X
+
+
+def account_bounds(N, lending, borrowing):
+    """g_1 to g_N."""
+    h = max([*lending, *borrowing], default=0)
+    g = {1: 1}
+    for t in range(2, N + 1):
+        g[t] = g[t - 1] + -(-g[t - 1] * h // MILLION) + 2
+    return g
+
+
+def cash(data, lending, borrowing):
+    """V(N), g_N and the word, with check 11 on every V."""
+    plan = read_with_lists(data, lending, borrowing)
+    V = {t: taken(x) for t, x in account(plan, lending, borrowing).items()}
+    g = account_bounds(plan.N, lending, borrowing)
+    return V[plan.N], g[plan.N], word(V[plan.N], g[plan.N])
+
+
+def untrue_account(plan, lending, borrowing, V, g, word):
+    """What document 02 says of an accepted answer, against the exact account: the first that is not so, or nothing."""
+    X = exact_account(plan, lending, borrowing)[plan.N]
+    if not V <= X < V + g:
+        return "the account"
+    if word == 1 and X < 0 or word == 2 and X >= 0:
+        return "the word of the account"
+    return None
+
+
+def crossings(account):
+    """How often an account is on another side of zero than the year before."""
+    sides = [x >= 0 for x in account.values()]
+    return sum(one != other for one, other in zip(sides, sides[1:]))
+
+
+def apart(V, X):
+    """Whether, in some year, the found account is below zero and the exact one is not."""
+    return any(V[t] < 0 <= X[t] for t in V)
+
+
+# ---- what is refused through the opening, through slopes or through lists
 
 
 def refusal(call, *given):
@@ -390,6 +472,59 @@ def through_slopes(data):
     if all(refusal(read, b"".join(record(*one) for one in other)) == number for other in others):
         return []
     return [str(number)] if number in (4, 5) else list(slope_reasons(numbers_of(data)))
+
+
+def wrong_in_lists(N, lending, borrowing):
+    """The checks that two lists fail beside a plan of N years, of 5, 8 and 14, each by itself."""
+    if {len(lending), len(borrowing)} != {N - 1}:
+        yield 5
+    if any(not 0 <= rate <= 200000 for rate in [*lending, *borrowing]):
+        yield 8
+    if any(owed < earned for earned, owed in zip(lending, borrowing)):
+        yield 14
+
+
+def list_reasons(number, N, lending, borrowing):
+    """What check 5, 8 or 14 finds in two lists, of LIST_REASONS."""
+    lists = ("lending", lending), ("borrowing", borrowing)
+    if number == 5:
+        wrong = [(name, len(rates)) for name, rates in lists if len(rates) != N - 1]
+        yield "5, both lists" if len(wrong) == 2 else f"5, {wrong[0][0]}"
+        yield from {"5, too few rates" if length < N - 1 else "5, too many rates" for _, length in wrong}
+        if len(lending) == len(borrowing) == N:
+            yield "5, N rates in both" + {1: ", N = 1", 30: ", N = 30"}.get(N, "")
+    elif number == 8:
+        wrong = [(name, rate) for name, rates in lists for rate in rates if not 0 <= rate <= 200000]
+        yield from {f"8, {name} " + ("too low" if rate < 0 else "too high") for name, rate in wrong}
+    else:
+        wrong = [t for t in range(2, N + 1) if borrowing[t - 2] < lending[t - 2]]
+        if len(wrong) == 1 and N > 2:
+            yield "14, " + {2: "the first year", N: "the last year"}.get(wrong[0], "a year between")
+
+
+LIST_REASONS = ["5, lending", "5, borrowing", "5, both lists", "5, too few rates", "5, too many rates",
+                "5, N rates in both, N = 1", "5, N rates in both", "5, N rates in both, N = 30",
+                "8, lending too low", "8, lending too high", "8, borrowing too low", "8, borrowing too high",
+                "14, the first year", "14, a year between", "14, the last year"]
+ORDER = [4, 5, 6, 7, 13, 8, 14, 9, 11]
+# The one that is answered and another that fails too, where the lists or the account can have a part in it.
+BEFORE = [f"{one} before {other}" for at, one in enumerate(ORDER) for other in ORDER[at + 1:]
+          if {one, other} & {5, 8, 14, 11} and not (one < 6 and other == 11)]
+
+
+def through_lists(data, lending, borrowing):
+    """Why the call for the cash account is refused where it is for its lists alone, of LIST_REASONS; and, of BEFORE, which other checks
+    fail, on the file, the lists or the account, beside the one that is answered."""
+    number, of_file = refusal(cash, data, lending, borrowing), refusal(read, data)
+    if number < 4:
+        return
+    N = data[4]
+    fail = set(wrong_in_lists(N, lending, borrowing))
+    if number in fail and number != of_file:
+        yield from list_reasons(number, N, lending, borrowing)
+    if number > 5 and any(abs(x) > LIMIT for x in account(numbers_of(data), lending, borrowing).values()):
+        fail.add(11)
+    yield from (f"{number} before {other}" for other in fail | {of_file} if other not in (0, number))
 
 
 def spelled_out(plan):

@@ -1,9 +1,10 @@
-"""Plans from a seed, and damaged files.
+"""Plans from a seed, damaged files, and lists of rates and plans for cash accounts.
 
 Sizes go over all of N, n, q and m; notes are plain or odd; half of the plans hold an opening; outflows are matched to the flow,
 so that funds lie within a few units of zero and loans roll into loans to the last year; rates are level, rising or wild, and are
 listed, meant by slopes, or some the one and some the other; amounts, and the rates that a slope means, lie at the ends of their ranges,
-its start and step at those of 32 bits, and cells and funds at 10^12 and one past it, on both sides of zero.
+its start and step at those of 32 bits, and cells and funds at 10^12 and one past it, on both sides of zero. Lists are right, or fail one
+check or more; accounts lie near zero in the last year or in most years, change sides often, and come to 10^12 and one past it.
 """
 import struct
 
@@ -391,3 +392,175 @@ def file(rng):
     if kind < 0.72:
         return bytes(rng.randrange(256) for _ in range(rng.randrange(40)))
     return damaged(rng, oracle.write(plain(rng) if rng.random() < 0.8 else outside(rng)))
+
+
+# ---- cash accounts
+
+
+def lists(rng, N):
+    """A lending and a borrowing list that nothing is wrong with: level, rising or wild; the same, one apart, or farther."""
+    kind = rng.random()
+    if kind < 0.1:
+        return [0] * (N - 1), [TOP] * (N - 1)
+    lending = pattern(rng, N)
+    if kind < 0.25:
+        return lending, list(lending)
+    if kind < 0.5:
+        margin = rng.choice([1, 20000, rng.randint(0, TOP)])
+        return lending, [min(TOP, rate + margin) for rate in lending]
+    return lending, [rng.choice([rate, TOP, rng.randint(rate, TOP)]) for rate in lending]
+
+
+def spoil_lists(rng, N, lending, borrowing, check):
+    """The lists are changed such that check 14, 8 or 5 fails, for N = 1 check 5: a borrowing rate that is too low, a rate outside the
+    range, in the first year, the last or another; or another number of rates, in one list or in both, often N in both."""
+    at = rng.choice([0, N - 2, rng.randrange(max(1, N - 1))])
+    if check == 14 and N > 1:
+        lending[at] = max(1, lending[at])
+        borrowing[at] = lending[at] - rng.choice([1, 1, lending[at]])
+    elif check == 8 and N > 1:
+        rng.choice([lending, borrowing])[at] = rng.choice([-1, TOP + 1, LEAST_32, MOST_32])
+    else:
+        lengths = [length for length in (0, N - 2, N, 29, 30, 31, N - 1 + 2 ** 8, rng.randint(32, 500)) if length not in (-1, N - 1)]
+        one = rng.choice(lengths)
+        for rates, length in rng.choice([[(lending, one)], [(borrowing, one)], [(lending, one), (borrowing, rng.choice(lengths))],
+                                         [(lending, N), (borrowing, N)]]):
+            more = rng.choice([[rates[-1] if rates else 0], [0, TOP], [any_32(rng)]])
+            rates[:] = (rates + [rng.choice(more) for _ in range(length)])[:length]
+
+
+def lists_to_fail(rng):
+    """Checks on lists that are to fail; 5 comes last, and leaves what it does not cut off."""
+    return rng.choice([[5], [8], [14], [14], [14, 8], rng.choice([[14, 5], [8, 5], [14, 8, 5]])])
+
+
+def any_lists(rng, data):
+    """Lists to go with a file, right or, as often, wrong."""
+    N = data[4] if len(data) > 4 and 1 <= data[4] <= 30 else rng.randint(1, 30)
+    lending, borrowing = lists(rng, N)
+    for check in rng.choice([[], lists_to_fail(rng)]):
+        spoil_lists(rng, N, lending, borrowing, check)
+    return lending, borrowing
+
+
+def some_years(rng):
+    """More than one, any number up to the largest, and that more often."""
+    return rng.choice([30] * 4 + list(range(2, 31)))
+
+
+def few(rng, N, payments=None, allocation=None):
+    """A plan of N years with few instruments, terms and patterns; its outflows are 0."""
+    n = rng.randint(1, 3)
+    return oracle.Plan(payments or [note(rng, N) for _ in range(n)], [0] * N, parts(rng, rng.randint(1, 3)),
+                       patterns(rng, N, rng.randint(1, 2)), allocation or parts(rng, n), opening(rng, N))
+
+
+def steered(plan, lending, borrowing, wanted):
+    """The outflows such that the account of each year that has a wanted one is that, or as near as their range allows."""
+    x, V = oracle.flow(plan), 0
+    for t in oracle.years(plan):
+        V += x[t] + (oracle.share(V, oracle.rate_of(V, t, lending, borrowing)) if t > 1 else 0)
+        if t in wanted:
+            moved = max(-MOST, min(MOST, plan.o(t) + V - wanted[t]))
+            V -= moved - plan.o(t)
+            plan.outflows[t - 1] = moved
+    return plan, lending, borrowing
+
+
+def near(rng, g):
+    """An account near zero, or near the end of what is close."""
+    return rng.choice([0, -1, 1, -g, 1 - g, -1 - g, rng.randint(-3, 3), rng.randint(-g, 0)])
+
+
+def plain_account(rng):
+    plan = plain(rng)
+    return plan, *lists(rng, plan.N)
+
+
+def ends_near_zero(rng):
+    plan, *both = plain_account(rng)
+    return steered(plan, *both, {plan.N: near(rng, oracle.account_bounds(plan.N, *both)[plan.N])})
+
+
+def stays_near_zero(rng):
+    """In most years, and in the last."""
+    N = some_years(rng)
+    both = lists(rng, N)
+    wanted = {t: near(rng, g) for t, g in oracle.account_bounds(N, *both).items() if t == N or rng.random() < 0.9}
+    return steered(few(rng, N), *both, wanted)
+
+
+def swings(rng):
+    """From one side of zero to the other, in turn or by chance, by any amounts."""
+    N = some_years(rng)
+    both = lists(rng, N)
+    top, odds = rng.choice([10, 10 ** 6, 10 ** 9, MOST]), rng.choice([0.5, 1])
+    sign, wanted = 1, {}
+    for t in range(1, N + 1):
+        sign = -sign if rng.random() < odds else sign
+        wanted[t] = sign * rng.randint(0, top)
+    if rng.random() < 0.5:
+        wanted[N] = near(rng, oracle.account_bounds(N, *both)[N])
+    return steered(few(rng, N), *both, wanted)
+
+
+def cuts_most(rng):
+    """Near zero, and the cuts take off as much as they can: 999,999 millionths of every flow and, in most years, of the interest."""
+    N = some_years(rng)
+    earned, owed = sorted(rng.choice([1, TOP - 1, rng.randrange(1, TOP, 10)]) for _ in range(2))
+    both = [earned] * (N - 1), [owed] * (N - 1)
+    # times its rate, each of these is 999,999 past a whole
+    above, below = pow(-earned, -1, oracle.MILLION), pow(-owed, -1, oracle.MILLION) - oracle.MILLION
+    wanted = {t: near(rng, g) if t == N or rng.random() < 0.3 else rng.choice([above, below])
+              for t, g in oracle.account_bounds(N, *both).items()}
+    row = [rng.randint(0, 10 ** 9) for _ in range(N)]
+    return steered(few(rng, N, [[amount + 999999 for amount in row], row], [1, 999999]), *both, wanted)
+
+
+# The first year in which the account can pass the limit, above zero and below: a flow is at most 3 * MOST and at least -MOST.
+FIRST = {1: 9, -1: 14}
+
+
+def comes_to_the_limit(rng):
+    """The account comes to 10^12 or -10^12, or past it, as early as it can, in a year between or in the last, and falls back after that.
+    In some plans it stays away from it, and the fund, at other rates, may pass it."""
+    sign = rng.choice([1, -1])
+    at = rng.choice([FIRST[sign], rng.randint(FIRST[sign], 30)])
+    N = rng.choice([at, rng.randint(at, 30)])
+    rate = rng.randint(150000, TOP) if at > FIRST[sign] + 1 else TOP
+    rates = [rate] * (at - 1) + [rng.randint(0, 10000) for _ in range(N - at)]
+    both = (rates, [rng.choice([one, TOP]) for one in rates]) if sign > 0 else ([rng.choice([0, one]) for one in rates], rates)
+    grown = [1]
+    while len(grown) < at:
+        grown.append(grown[-1] * (1 + rate / oracle.MILLION) + 1)
+    end = sign * (oracle.LIMIT + rng.choice([0, 0, 1, 1, rng.randint(2, 10 ** 9)]))
+    wanted = {t: int(end * so_far / grown[-1]) for t, so_far in enumerate(grown, 1)}
+    wanted[at] = end
+    wanted.update((t, end - sign * (rng.randint(1, 10) + 10 ** 9 * (t - at))) for t in range(at + 1, N + 1))
+    # what comes in each year until then is such that the outflows stay in their range
+    flow, room = int(end / grown[-1]), MOST - 10 ** 6
+    low, high = max(0, flow - room), min(2 * room, flow + room)
+    income = rng.choice([low, high, rng.randint(low, high)])
+    older = 0 if income <= MOST and rng.random() < 0.5 else rng.randint(max(0, income - MOST), min(MOST, income))
+
+    def until(amount):
+        return [amount] * at + [0] * (N - at)
+
+    plan = few(rng, N)
+    plan.payments = [until(max(0, income - older - rng.randint(0, 1000))) for _ in plan.payments]
+    plan.opening = until(older) if older else None
+    plan.patterns = rng.choice([plan.patterns, [[0] * (N - 1) for _ in plan.patterns]])
+    steered(plan, *both, wanted)
+    if rng.random() < 0.2:
+        plan.patterns, both = [[TOP] * (N - 1) for _ in plan.patterns], ([0] * (N - 1), [0] * (N - 1))
+    return plan, *both
+
+
+# The kinds of accounts, and how many there are of each.
+ACCOUNTS = {plain_account: 2, ends_near_zero: 2, stays_near_zero: 3, swings: 2, cuts_most: 1, comes_to_the_limit: 2}
+
+
+def account(rng):
+    """A kind, and a plan and two lists of that kind."""
+    kind = rng.choices(list(ACCOUNTS), ACCOUNTS.values())[0]
+    return kind, *kind(rng)
