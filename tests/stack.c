@@ -4,8 +4,8 @@
  *
  * makes one call on a thread whose stack has just that many bytes, and prints the refusal that it answered and how many of the
  * bytes were used. FILE is the plan file, and NUMBER the pattern; for `write`, FILE is a struct planner_plan as it stands, and
- * NUMBER the length of the buffer. The call `nothing` does nothing: what it uses is the thread's own. The stack holds known bytes
- * before, and an inaccessible page lies below it.
+ * NUMBER the length of the buffer; for `cash`, NUMBER is how many rates each list has, all of them RATE. The call `nothing` does nothing:
+ * what it uses is the thread's own. The stack holds known bytes before, and an inaccessible page lies below it.
  *
  *     stack together FILE FILE ..
  *
@@ -21,18 +21,20 @@
 
 #include "planner.h"
 
-enum { CALLS = 8, KNOWN = 0xa5, ROUNDS = 100, SECONDS = 60 };
+enum { CALLS = 9, KNOWN = 0xa5, RATE = 200000, ROUNDS = 100, SECONDS = 60 };
 
 /* What is asked, and room for every answer. */
 struct work {
     const uint8_t *file;
-    size_t file_length, pattern, room;
+    size_t file_length, pattern, room, rates;
     struct planner_plan plan;
     uint8_t written[PLANNER_FILE_BYTES], listing[PLANNER_LISTING_BYTES];
     size_t written_length, listing_length;
     int64_t fund, bound, coefficients[PLANNER_INSTRUMENTS], constant, value, gammas[PLANNER_YEARS * PLANNER_YEARS];
     uint8_t words[PLANNER_PATTERNS], word;
     uint64_t shorts;
+    int64_t account, account_bound;
+    uint8_t account_word;
     uint8_t refusals[CALLS];
 };
 
@@ -97,6 +99,13 @@ static uint8_t call_list(struct work *w)
     return (uint8_t)strtoul((const char *)w->listing + sizeof refused - 1, NULL, 10);
 }
 
+static int32_t rates[PLANNER_YEARS + 1]; /* each of them RATE */
+
+static uint8_t call_cash(struct work *w)
+{
+    return planner_cash(w->file, w->file_length, rates, w->rates, rates, w->rates, &w->account, &w->account_bound, &w->account_word);
+}
+
 typedef uint8_t a_call(struct work *w);
 
 static const struct {
@@ -104,7 +113,7 @@ static const struct {
     a_call *call;
 } calls[CALLS] = {
     {"read", call_read}, {"write", call_write}, {"fund", call_fund}, {"bound", call_bound},
-    {"form", call_form}, {"gammas", call_gammas}, {"verdict", call_verdict}, {"list", call_list},
+    {"form", call_form}, {"gammas", call_gammas}, {"verdict", call_verdict}, {"list", call_list}, {"cash", call_cash},
 };
 
 static a_call *call_of(const char *name)
@@ -151,6 +160,7 @@ static struct work *work_on(const char *path, size_t pattern, size_t room)
     w->file_length = load(path, bytes, MOST);
     w->pattern = pattern;
     w->room = room;
+    w->rates = w->file_length > 4 && bytes[4] >= 1 && bytes[4] <= PLANNER_YEARS ? bytes[4] - 1u : 0;
     return w;
 }
 
@@ -197,6 +207,10 @@ static int one_call(char **argv)
     struct work *w = work_on(argv[3], number, the_call == call_write ? number : 0);
     if (the_call == call_write)
         need(load(argv[3], &w->plan, sizeof w->plan) == sizeof w->plan, "no plan to write");
+    if (the_call == call_cash) {
+        need(number <= PLANNER_YEARS + 1, "too many rates");
+        w->rates = number;
+    }
     return measure(number_of(argv[1]), w);
 }
 
@@ -223,6 +237,7 @@ static void ask_again(struct work *w, const struct work *of)
     w->file_length = of->file_length;
     w->pattern = of->pattern;
     w->room = of->room;
+    w->rates = of->rates;
 }
 
 static void *make_again(void *at)
@@ -257,6 +272,8 @@ static int together(size_t count, char **paths)
 
 int main(int argc, char **argv)
 {
+    for (size_t k = 0; k <= PLANNER_YEARS; k++)
+        rates[k] = RATE;
     alarm(SECONDS);
     if (argc > 2 && strcmp(argv[1], "together") == 0)
         return together((size_t)argc - 2, argv + 2);
