@@ -1,5 +1,6 @@
-/* The yearly reckoning of document 01, with the opening and slopes, in plain C: the same checks in the same order, the same window of
- * q terms, every flow of every pattern reckoned once. Nothing is copied that C need not copy; the plan is passed by pointer. */
+/* The yearly reckoning of document 01, with the opening and slopes, and the cash account of document 02, in plain C: the same checks in
+ * the same order, the same window of q terms, every flow of every pattern reckoned once. Nothing is copied that C need not copy; the
+ * plan is passed by pointer. */
 #include "verdict.h"
 
 #include <stdbool.h>
@@ -155,7 +156,7 @@ static uint64_t sum(const uint32_t *xs, size_t n)
     return s;
 }
 
-/* Checks 6, 7, 13, 8 and 9. */
+/* Checks 6, 7, 13 and 8. */
 static uint8_t check_plan(const struct plan *plan)
 {
     for (size_t j = 0; j < plan->instruments; j++)
@@ -171,6 +172,12 @@ static uint8_t check_plan(const struct plan *plan)
     for (size_t t = 0; t < plan->patterns; t++)
         if (!within(plan->rates[t], plan->years - 1, 0, 200000))
             return 8;
+    return 0;
+}
+
+/* Check 9. */
+static uint8_t check_allocation(const struct plan *plan)
+{
     return sum(plan->allocation, plan->instruments) != MILLION ? 9 : 0;
 }
 
@@ -186,6 +193,28 @@ static int64_t share(int64_t x, int64_t f)
 {
     return down(x * f);
 }
+
+/* The opening less the outflow, in the year of place k. */
+static int64_t net_at(const struct plan *plan, size_t k)
+{
+    return plan->opening[k] - plan->outflows[k];
+}
+
+/* The allocation's flow, in the year of place k. */
+static int64_t flow_at(const struct plan *plan, size_t k)
+{
+    int64_t s = 0;
+    for (size_t j = 0; j < plan->instruments; j++)
+        s += plan->payments[j][k] * (int64_t)plan->allocation[j];
+    return down(s) + net_at(plan, k);
+}
+
+static uint8_t word_of(int64_t amount, int64_t bound)
+{
+    return amount >= 0 ? 1 : amount + bound <= 0 ? 2 : 3;
+}
+
+/* ---- the verdict */
 
 /* The fund of a flow over n years; check 11. */
 static uint8_t fund(const int64_t *flow, const int64_t *r, const int64_t *w, const int64_t *i, size_t n, size_t q, int64_t *out)
@@ -234,7 +263,7 @@ static uint8_t reckon(const struct plan *plan, const int64_t *flow, const int64_
     if (fund(net, r, w, i, N, q, &row->constant))
         return 11;
     row->bound = bound(i, N);
-    row->word = row->fund >= 0 ? 1 : row->fund + row->bound <= 0 ? 2 : 3;
+    row->word = word_of(row->fund, row->bound);
     return 0;
 }
 
@@ -253,9 +282,11 @@ uint8_t c_verdict(const uint8_t *file, size_t length, uint8_t words[static 64], 
     uint8_t no = read_plan(file, length, &plan);
     if (!no)
         no = check_plan(&plan);
+    if (!no)
+        no = check_allocation(&plan);
     if (no)
         return refused(no, words, shorts, word);
-    size_t N = plan.years, n = plan.instruments, q = plan.terms, m = plan.patterns;
+    size_t N = plan.years, q = plan.terms, m = plan.patterns;
     int64_t r[30] = {0}, w[30] = {0}, flow[30], net[30], left = MILLION;
     for (size_t d = 0; d < q; d++) {
         r[d] = plan.rollover[d];
@@ -263,11 +294,8 @@ uint8_t c_verdict(const uint8_t *file, size_t length, uint8_t words[static 64], 
         left -= r[d];
     }
     for (size_t k = 0; k < N; k++) {
-        int64_t s = 0;
-        for (size_t j = 0; j < n; j++)
-            s += plan.payments[j][k] * (int64_t)plan.allocation[j];
-        net[k] = plan.opening[k] - plan.outflows[k];
-        flow[k] = down(s) + net[k];
+        net[k] = net_at(&plan, k);
+        flow[k] = flow_at(&plan, k);
     }
     for (size_t t = 0; t < m; t++)
         if (reckon(&plan, flow, net, r, w, plan.rates[t], &rows[t]))
@@ -282,5 +310,70 @@ uint8_t c_verdict(const uint8_t *file, size_t length, uint8_t words[static 64], 
         solvent = solvent && words[t] == 1;
     }
     *word = *shorts ? 2 : solvent ? 1 : 3;
+    return 0;
+}
+
+/* ---- the cash account */
+
+/* Checks 8 and 14 of two lists of n rates. */
+static uint8_t check_lists(const int32_t *lending, const int32_t *borrowing, size_t n)
+{
+    for (size_t l = 0; l < n; l++)
+        if (lending[l] < 0 || lending[l] > 200000 || borrowing[l] < 0 || borrowing[l] > 200000)
+            return 8;
+    for (size_t l = 0; l < n; l++)
+        if (borrowing[l] < lending[l])
+            return 14;
+    return 0;
+}
+
+/* V of the last year; check 11, which no first year can fail. */
+static uint8_t account_of(const struct plan *plan, const int32_t *lending, const int32_t *borrowing, int64_t *out)
+{
+    int64_t v = flow_at(plan, 0);
+    for (size_t t = 1; t < plan->years; t++) {
+        v += share(v, v >= 0 ? lending[t - 1] : borrowing[t - 1]) + flow_at(plan, t);
+        if (v > LIMIT || v < -LIMIT)
+            return 11;
+    }
+    *out = v;
+    return 0;
+}
+
+/* g of the last year, for lists of n rates. */
+static int64_t account_bound(const int32_t *lending, const int32_t *borrowing, size_t n)
+{
+    int64_t h = 0, g = 1;
+    for (size_t l = 0; l < n; l++) {
+        h = lending[l] > h ? lending[l] : h;
+        h = borrowing[l] > h ? borrowing[l] : h;
+    }
+    for (size_t l = 0; l < n; l++)
+        g += down(g * h + 999999) + 2;
+    return g;
+}
+
+uint8_t c_cash(const uint8_t *file, size_t length, const int32_t *lending, size_t lending_length, const int32_t *borrowing,
+               size_t borrowing_length, int64_t *account, int64_t *bound, uint8_t *word)
+{
+    struct plan plan;
+    *account = *bound = *word = 0;
+    uint8_t no = read_plan(file, length, &plan);
+    if (no)
+        return no;
+    size_t n = plan.years - 1;
+    if (lending_length != n || borrowing_length != n)
+        return 5;
+    no = check_plan(&plan);
+    if (!no)
+        no = check_lists(lending, borrowing, n);
+    if (!no)
+        no = check_allocation(&plan);
+    if (!no)
+        no = account_of(&plan, lending, borrowing, account);
+    if (no)
+        return no;
+    *bound = account_bound(lending, borrowing, n);
+    *word = word_of(*account, *bound);
     return 0;
 }

@@ -1,4 +1,4 @@
-/* The verdict on a plan file, reckoned in plain C: what planner_verdict is measured against. */
+/* The verdict on a plan file and its cash account, reckoned in plain C: what planner_verdict and planner_cash are measured against. */
 #ifndef VERDICT_H
 #define VERDICT_H
 
@@ -7,5 +7,9 @@
 
 /* As planner_verdict: the words of the patterns, the short ones as bits, the plan's word; answers the refusal. */
 uint8_t c_verdict(const uint8_t *file, size_t length, uint8_t words[static 64], uint64_t *shorts, uint8_t *word);
+
+/* As planner_cash: V, g and the word; answers the refusal. */
+uint8_t c_cash(const uint8_t *file, size_t length, const int32_t *lending, size_t lending_length, const int32_t *borrowing,
+               size_t borrowing_length, int64_t *account, int64_t *bound, uint8_t *word);
 
 #endif
