@@ -1,6 +1,15 @@
-/* planner_list on any bytes. What must hold, or the program aborts: the listing is at most PLANNER_LISTING_BYTES long, nothing is
- * changed after it, around the buffer or in the file, nothing is read or written outside what is lent, the text has the form of a
- * listing, and the same file gives the same text again.
+/* planner_list and planner_cash on any bytes. What must hold, or the program aborts: the listing is at most PLANNER_LISTING_BYTES
+ * long, nothing is changed after it, around the buffer or in the file, nothing is read or written outside what is lent, the text has
+ * the form of a listing, and the same file gives the same text again. The cash account is refused as the listing and the two lists of
+ * rates say, and then its numbers are 0; else the account and the bound are in their ranges, and the word is theirs; the file, the
+ * lists and what is around the three numbers are unchanged, and the same file and lists give the same answer again.
+ *
+ * An input is a plan file, and the two lists of rates are made from it. Lending rates are those of its first pattern that lists them,
+ * borrowing rates those of its last if it has two such, raised to the lending rate where they are below it. What is still missing is
+ * drawn, and so is what is wrong: one file in eight has lists of other lengths (0, N - 1, N, N + 255, 30, 31, or any up to 1,024), one
+ * in eight a borrowing rate below the lending rate, one in eight a rate outside the range, each whatever the others are; two in three
+ * have nothing wrong. The generator begins with a hash of the records other than the payments, the outflows and the opening: a change
+ * of an amount leaves the lists as they are.
  *
  * Built for libFuzzer by fuzz/run, and with REPLAY as a program that takes files, or standard input, by fuzz/replay.
  *
@@ -17,7 +26,7 @@
 
 #include "planner.h"
 
-enum { MOST_FILE = 1 << 17, GUARD = 4096, FILL = 0xa5 };
+enum { MOST_FILE = 1 << 17, GUARD = 4096, FILL = 0xa5, MOST_RATES = GUARD / 4, TOP_RATE = 200000 };
 
 static void must(int holds, const char *what)
 {
@@ -25,6 +34,22 @@ static void must(int holds, const char *what)
         fprintf(stderr, "list: %s\n", what);
         abort();
     }
+}
+
+/* ---- the records of a file */
+
+/* Whether a whole record begins at `at`, and the length of its body. */
+static int record(const uint8_t *data, size_t size, size_t at, size_t *length)
+{
+    if (size - at < 4)
+        return 0;
+    *length = data[at] | (size_t)data[at + 1] << 8;
+    return size - at - 4 >= *length;
+}
+
+static int has_amounts(unsigned kind)
+{
+    return kind == 2 || kind == 3 || kind == 7;
 }
 
 /* ---- the form of a listing */
@@ -69,6 +94,98 @@ static int refusal_of(const uint8_t *text, size_t length)
     return 0;
 }
 
+/* ---- the lists of rates */
+
+struct rates {
+    size_t count;
+    int32_t at[MOST_RATES];
+};
+static struct rates lending, borrowing;
+static size_t right_count; /* N - 1, if the file has passed check 3 */
+static uint64_t drawn;
+
+/* A number below `count`. */
+static uint32_t draw(size_t count)
+{
+    drawn = drawn * 6364136223846793005 + 1442695040888963407;
+    return (uint32_t)((drawn >> 33) % count);
+}
+
+/* The generator begins with a hash of every record's head, and of its body where it has no amounts. */
+static void begin_drawing(const uint8_t *data, size_t size)
+{
+    size_t length;
+    drawn = 14695981039346656037u;
+    for (size_t at = 0; record(data, size, at, &length); at += 4 + length)
+        for (size_t k = 0; k < (has_amounts(data[at + 2]) ? 4 : 4 + length); k++)
+            drawn = (drawn ^ data[at + k]) * 1099511628211;
+}
+
+static size_t some_count(void)
+{
+    const size_t counts[] = {0, right_count, right_count + 1, right_count + 256, 30, 31, draw(MOST_RATES + 1)};
+    return counts[draw(sizeof counts / sizeof *counts)];
+}
+
+/* A rate from `low` to `high`, and each of these more often than others. */
+static int32_t some_rate(int32_t low, int32_t high)
+{
+    uint32_t kind = draw(8);
+    return kind == 0 ? low : kind == 1 ? high : low + (int32_t)draw((size_t)(high - low + 1));
+}
+
+/* Rates that nothing is wrong with, if there is nothing wrong with those of the patterns. */
+static void fill_lists(const uint8_t *data, size_t size)
+{
+    int32_t top = some_rate(0, TOP_RATE);
+    for (size_t k = 0; k < right_count || k < lending.count || k < borrowing.count; k++) {
+        lending.at[k] = some_rate(0, top);
+        borrowing.at[k] = some_rate(lending.at[k], top);
+    }
+    size_t length, found = 0;
+    for (size_t at = 0; record(data, size, at, &length); at += 4 + length)
+        if (data[at + 2] == 5 && length == 4 * right_count)
+            memcpy(found++ == 0 ? lending.at : borrowing.at, data + at + 4, length);
+    for (size_t k = 0; k < right_count; k++)
+        if (borrowing.at[k] < lending.at[k])
+            borrowing.at[k] = lending.at[k];
+}
+
+/* The two lists that go with a file. */
+static void make_lists(const uint8_t *data, size_t size)
+{
+    static const int32_t outside[] = {-1, TOP_RATE + 1, INT32_MIN, INT32_MAX};
+    right_count = size > 4 && data[4] >= 1 && data[4] <= PLANNER_YEARS ? data[4] - 1 : 0;
+    begin_drawing(data, size);
+    lending.count = borrowing.count = right_count;
+    if (draw(8) == 0) {
+        lending.count = some_count();
+        borrowing.count = draw(2) ? lending.count : some_count();
+    }
+    fill_lists(data, size);
+    if (draw(8) == 0 && lending.count > 0 && borrowing.count > 0) {
+        size_t k = draw(lending.count < borrowing.count ? lending.count : borrowing.count);
+        lending.at[k] = some_rate(1, TOP_RATE);
+        borrowing.at[k] = some_rate(0, lending.at[k] - 1);
+    }
+    struct rates *either = draw(2) ? &lending : &borrowing;
+    if (draw(8) == 0 && either->count > 0)
+        either->at[draw(either->count)] = outside[draw(4)];
+}
+
+/* The first check, 5, 8 or 14, that the lists fail; 0 if they fail none. */
+static int wrong_in_lists(void)
+{
+    int outside = 0, below = 0;
+    if (lending.count != right_count || borrowing.count != right_count)
+        return 5;
+    for (size_t k = 0; k < right_count; k++) {
+        outside |= lending.at[k] < 0 || lending.at[k] > TOP_RATE || borrowing.at[k] < 0 || borrowing.at[k] > TOP_RATE;
+        below |= borrowing.at[k] < lending.at[k];
+    }
+    return outside ? 8 : below ? 14 : 0;
+}
+
 /* ---- one call */
 
 /* A piece of memory between two inaccessible pages. */
@@ -100,13 +217,11 @@ static size_t list(const uint8_t *data, size_t size, uint8_t *file, uint8_t *out
     return length;
 }
 
-static int one_input(const uint8_t *data, size_t size)
+static uint8_t *file_room, *out_room;
+
+/* The refusal of the file's listing, which is made three times. */
+static int list_refusal(const uint8_t *data, size_t size)
 {
-    static uint8_t *file_room, *out_room;
-    if (!file_room) {
-        file_room = fenced(MOST_FILE);
-        out_room = fenced(PLANNER_LISTING_BYTES + GUARD);
-    }
     /* In blocks of just the size, which valgrind sees. */
     uint8_t *file = malloc(size), *out = malloc(PLANNER_LISTING_BYTES);
     must(out && (file || size == 0), "no memory");
@@ -122,33 +237,128 @@ static int one_input(const uint8_t *data, size_t size)
     return refusal;
 }
 
+/* What is lent to planner_cash, first what is read and then what is filled; each piece has a room of its own, and lies at one of these
+ * places in it, or in none. */
+enum { FILE_BYTES, LENDING, BORROWING, ACCOUNT, BOUND, WORD, PIECES };
+enum place { NO_ROOM, LATE, EARLY };
+static uint8_t *rooms[PIECES];
+
+struct answer {
+    int64_t refusal, account, bound, word;
+};
+
+/* The cash account, with every piece in a block of just the size, or flush with the inaccessible page after its room or before it. */
+static struct answer cash(const uint8_t *data, size_t size, enum place place)
+{
+    const void *from[] = {data, lending.at, borrowing.at};
+    const size_t sizes[] = {size, 4 * lending.count, 4 * borrowing.count, 8, 8, 1};
+    void *at[PIECES];
+    for (int k = 0; k < PIECES; k++) {
+        size_t room = k == FILE_BYTES ? MOST_FILE : GUARD;
+        at[k] = place == NO_ROOM ? malloc(sizes[k]) : place == LATE ? rooms[k] + room - sizes[k] : rooms[k];
+        must(at[k] != NULL, "no memory");
+        if (k >= ACCOUNT) {
+            memset(rooms[k], FILL, room);
+            memset(at[k], FILL, sizes[k]);
+        } else if (sizes[k] > 0)
+            memcpy(at[k], from[k], sizes[k]);
+    }
+    struct answer answer;
+    answer.refusal = planner_cash(at[FILE_BYTES], size, at[LENDING], lending.count, at[BORROWING], borrowing.count, at[ACCOUNT],
+                                  at[BOUND], at[WORD]);
+    answer.account = *(int64_t *)at[ACCOUNT];
+    answer.bound = *(int64_t *)at[BOUND];
+    answer.word = *(uint8_t *)at[WORD];
+    for (int k = 0; k < PIECES; k++) {
+        if (k >= ACCOUNT) {
+            memset(at[k], FILL, sizes[k]);
+            must(all_filled(rooms[k], GUARD), "a byte around a number is changed");
+        } else
+            must(sizes[k] == 0 || memcmp(at[k], from[k], sizes[k]) == 0, "the file or a list is changed");
+        if (place == NO_ROOM)
+            free(at[k]);
+    }
+    return answer;
+}
+
+/* The refusal that the call must answer, by that of the listing and by the lists; 0 where it may also be 11. */
+static int due(int listed)
+{
+    int wrong = wrong_in_lists();
+    if (listed >= 1 && listed <= 5)
+        return listed;
+    if (wrong == 5 || listed == 0 || listed == 11)
+        return wrong;
+    return listed == 9 && wrong != 0 ? wrong : listed;
+}
+
+/* What the answer for the cash account must be like, by the refusal of the listing. */
+static void check(struct answer said, int listed)
+{
+    const int64_t limit = 1000000000000, most_bound = (int64_t)1 << 32;
+    int refusal = due(listed);
+    /* 60,000,000,000 a year, at 20 percent, pass the limit in year 9. */
+    must(said.refusal == refusal || (said.refusal == 11 && refusal == 0 && right_count >= 8), "the cash account is refused in another way");
+    if (said.refusal != 0) {
+        must(said.account == 0 && said.bound == 0 && said.word == 0, "a number of a refusal is not 0");
+        return;
+    }
+    must(said.account >= -limit && said.account <= limit, "the account is outside the limit");
+    must(said.bound >= 1 && said.bound <= most_bound, "the bound is outside its range");
+    must(said.word == (said.account >= 0 ? PLANNER_SOLVENT : said.account + said.bound <= 0 ? PLANNER_SHORT : PLANNER_CLOSE),
+         "the word is not that of the account and the bound");
+}
+
+/* The refusal of the listing, and the answer for the cash account. */
+static int one_input(const uint8_t *data, size_t size, struct answer *account)
+{
+    if (!file_room) {
+        file_room = rooms[FILE_BYTES] = fenced(MOST_FILE);
+        out_room = fenced(PLANNER_LISTING_BYTES + GUARD);
+        for (int k = LENDING; k < PIECES; k++)
+            rooms[k] = fenced(GUARD);
+    }
+    int refusal = list_refusal(data, size);
+    make_lists(data, size);
+    *account = cash(data, size, NO_ROOM);
+    check(*account, refusal);
+    struct answer second = cash(data, size, LATE), third = cash(data, size, EARLY);
+    must(memcmp(&second, account, sizeof second) == 0, "the second answer for the cash account is another");
+    must(memcmp(&third, account, sizeof third) == 0, "the third answer for the cash account is another");
+    return refusal;
+}
+
 #ifdef REPLAY
 
-static void replay(FILE *from, const char *name)
+/* Whether a cash account was answered. */
+static int replay(FILE *from, const char *name)
 {
     static uint8_t data[MOST_FILE];
+    struct answer account;
     size_t size = fread(data, 1, sizeof data, from);
     if (ferror(from) || !feof(from)) {
         fprintf(stderr, "list: %s cannot be read whole\n", name);
         exit(2);
     }
     fclose(from);
-    one_input(data, size);
+    one_input(data, size, &account);
+    return account.refusal == 0;
 }
 
 int main(int argc, char **argv)
 {
+    int accounts = 0;
     if (argc == 1)
-        replay(stdin, "standard input");
+        accounts += replay(stdin, "standard input");
     for (int k = 1; k < argc; k++) {
         FILE *from = fopen(argv[k], "rb");
         if (!from) {
             perror(argv[k]);
             return 2;
         }
-        replay(from, argv[k]);
+        accounts += replay(from, argv[k]);
     }
-    printf("%d files\n", argc == 1 ? 1 : argc - 1);
+    printf("%d files, %d cash accounts\n", argc == 1 ? 1 : argc - 1, accounts);
     return 0;
 }
 
@@ -158,8 +368,8 @@ int main(int argc, char **argv)
 
 enum { BLOCKS = 1 << 14, BREAKPOINT = 0xcc };
 
-/* What libFuzzer looks at after each input: a counter for each block, for which was reached after which, and for what the plan and
- * its listing are like. */
+/* What libFuzzer looks at after each input: a counter for each block, for which was reached after which, and for what the plan, its
+ * listing and its cash account are like. */
 #define COUNTERS __attribute__((section("__libfuzzer_extra_counters"))) static volatile uint8_t
 COUNTERS reached[BLOCKS];
 COUNTERS after[BLOCKS];
@@ -169,7 +379,7 @@ static struct {
     uint8_t *at, first; /* where it is, and its own first byte */
     int ever;           /* whether any input has reached it */
 } blocks[BLOCKS];
-static size_t block_count, hits[BLOCKS], hit_count, plan_count;
+static size_t block_count, hits[BLOCKS], hit_count, plan_count, account_counts[4];
 
 static void on_breakpoint(int number, siginfo_t *info, void *context)
 {
@@ -199,6 +409,8 @@ static void say_coverage(void)
     for (size_t k = 0; k < block_count; k++)
         ever += blocks[k].ever;
     fprintf(stderr, "stat::plans_listed:             %zu\n", plan_count);
+    fprintf(stderr, "stat::accounts:                 %zu solvent, %zu short, %zu close\n", account_counts[PLANNER_SOLVENT],
+            account_counts[PLANNER_SHORT], account_counts[PLANNER_CLOSE]);
     fprintf(stderr, "stat::library_blocks_reached:   %zu of %zu\n", ever, block_count);
 }
 
@@ -232,9 +444,15 @@ int LLVMFuzzerTestOneInput(const uint8_t *data, size_t size)
         return 0;
     while (hit_count > 0)
         *blocks[hits[--hit_count]].at = BREAKPOINT;
-    int refusal = one_input(data, size);
+    struct answer account;
+    int refusal = one_input(data, size, &account);
     like[refusal] = 1;
+    like[16 + account.refusal] = 1;
+    like[448 + 4 * refusal + wrong_in_lists() / 4] = 1; /* what is wrong in the file and in the lists */
     plan_count += refusal == 0;
+    account_counts[account.word]++;
+    if (account.refusal == 0)
+        like[320 + 32 * account.word + data[4]] = 1; /* its word and N */
     if (refusal == 0)
         for (size_t k = 0; k < 4; k++)
             like[64 + 64 * k + data[4 + k]] = 1; /* N, n, q, m */
@@ -244,15 +462,6 @@ int LLVMFuzzerTestOneInput(const uint8_t *data, size_t size)
 /* ---- mutations */
 
 size_t LLVMFuzzerMutate(uint8_t *data, size_t size, size_t most);
-
-/* Whether a whole record begins at `at`, and the length of its body. */
-static int record(const uint8_t *data, size_t size, size_t at, size_t *length)
-{
-    if (size - at < 4)
-        return 0;
-    *length = data[at] | (size_t)data[at + 1] << 8;
-    return size - at - 4 >= *length;
-}
 
 /* A slope's T goes into its range, and its start and step where every rate that it can mean is in its own, unless all that it means
  * already are. */
@@ -278,7 +487,7 @@ static void put_right(unsigned kind, uint8_t *body, size_t length, int years)
 {
     if (kind == 8 && length == 9)
         put_slope_right(body, years);
-    for (size_t k = 0; (kind == 2 || kind == 3 || kind == 7) && k + 8 <= length; k += 8) {
+    for (size_t k = 0; has_amounts(kind) && k + 8 <= length; k += 8) {
         int64_t amount;
         memcpy(&amount, body + k, 8);
         amount %= 20000000001;
