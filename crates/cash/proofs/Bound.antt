@@ -10,10 +10,10 @@ use lib.IntN.{ℤ, pos, natAbs, _+ℤ_, _*ℤ_}
 use Rattle.whole.specs.Range.{million, Between, Within}
 use Rattle.whole.specs.Floor.{floor}
 use Rattle.whole.proofs.Bridge.{whole, at, #, _⊕_}
-use Rattle.whole.proofs.Range.{within-pos, within-mul}
+use Rattle.whole.proofs.Range.{within-pos}
 use Rattle.reckoning.specs.Bound.{ceiling}
 use Rattle.reckoning.specs.Arrays.{ratesOf, Years, Rates}
-use Rattle.reckoning.proofs.BoundLaws.{ceiling-high}
+use Rattle.reckoning.proofs.BoundLaws.{ceiling-high, ceiling-is}
 use Rattle.reckoning.proofs.BoundLoops.{largest-small}
 use Rattle.cash.specs.Account.{h as largestRate, g}
 
@@ -56,16 +56,9 @@ module _ {h n : ℕ} {x : ℤ} {t : ℕ} (s : Growing (pos h) n x t) where
   pub g-within : Within 4_294_967_296 x
   g-within = rw (s .is) (within-pos (omega (arith, most)))
 
-  pub product-within : Within 4_294_967_296_000_000 (x *ℤ pos h)
-  product-within = within-mul g-within (within-pos (s .small))
-
-  pub asked-within : Within 1_000_000_000_000_000_000 (x *ℤ pos h +ℤ pos 999_999)
-  asked-within = omega (whole, product-within, at (# (x *ℤ pos h) ⊕ # (pos 999_999)))
-
   module _ (b : t < n) {d : ℤ} (e : d ≡ floor (x *ℤ pos h +ℤ pos 999_999) million) where
     down-is : d ≡ pos (ceiling (g h t * h))
-    unfolding floor ceiling
-    down-is = e ∙ ap (λ (z : ℤ). floor (z *ℤ pos h +ℤ pos 999_999) million) (s .is)
+    down-is = ceiling-is h (s .is) e
 
     pub added-within : Within 4_294_967_296 (d +ℤ pos 2)
     added-within = rw down-is (within-pos (omega (arith, ceiling-high h (g h t) (s .small), most)))

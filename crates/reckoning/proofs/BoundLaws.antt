@@ -1,11 +1,15 @@
--- The bound: its equations, and its size.
-use mathlib.Core.Path.{_≡_, refl}
+-- The bound: its equations, its size, and the numbers of a step.
+use mathlib.Core.Path.{_≡_, refl, ap, _∙_}
 use Prim.Native.Nat.{ℕ, zero, suc, _+_, _-_, _*_, _^_, _≤_, _<_}
 use native.Mathlib.Nat.{pow-suc, mul-le-mul-left}
 use native.Mathlib.Numerals.{add-one}
 use native.Mathlib.Omega.{arith}
 use lib.Pow.{pow-mono}
-use Rattle.whole.specs.Range.{million}
+use lib.IntN.{ℤ, pos, _+ℤ_, _*ℤ_}
+use Rattle.whole.specs.Range.{million, Within}
+use Rattle.whole.specs.Floor.{floor}
+use Rattle.whole.proofs.Bridge.{whole, at, #, _⊕_}
+use Rattle.whole.proofs.Range.{within-pos, within-mul}
 use Rattle.reckoning.specs.Bound.{ceiling, G, B}
 
 pub ceiling-low : (n : ℕ) → n ≤ million * ceiling n
@@ -60,3 +64,15 @@ module _ (h : ℕ) where
   pub B-most : (N : ℕ) → h ≤ million → 1 ≤ N → N ≤ 30 → B h N ≤ 4_294_967_296
   unfolding B
   B-most N most some few = omega (arith, G-most (N + 1) most (omega arith) (omega arith))
+
+-- ---- what the code reckons on the way from a bound x, within 2^32, to the next, at the largest rate h
+module _ {x : ℤ} {h : ℕ} (within : Within 4_294_967_296 x) (small : h ≤ million) where
+  pub product-within : Within 4_294_967_296_000_000 (x *ℤ pos h)
+  product-within = within-mul within (within-pos small)
+
+  pub asked-within : Within 1_000_000_000_000_000_000 (x *ℤ pos h +ℤ pos 999_999)
+  asked-within = omega (whole, product-within, at (# (x *ℤ pos h) ⊕ # (pos 999_999)))
+
+pub ceiling-is : {x d : ℤ} {n : ℕ} (h : ℕ) → x ≡ pos n → d ≡ floor (x *ℤ pos h +ℤ pos 999_999) million → d ≡ pos (ceiling (n * h))
+unfolding floor ceiling
+ceiling-is h e f = f ∙ ap (λ (z : ℤ). floor (z *ℤ pos h +ℤ pos 999_999) million) e

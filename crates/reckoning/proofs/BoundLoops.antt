@@ -10,12 +10,12 @@ use Rattle.whole.specs.Range.{million, Between, Within}
 use Rattle.whole.specs.Floor.{floor}
 use Rattle.whole.specs.Sum.{largest}
 use Rattle.whole.proofs.Bridge.{whole, at, #, _⊕_}
-use Rattle.whole.proofs.Range.{within-pos, within-mul, within-abs}
+use Rattle.whole.proofs.Range.{within-pos, within-abs}
 use Rattle.whole.proofs.Sum.{largest-none, largest-more, largest-least}
 use Rattle.reckoning.specs.Bound.{h as largestOf, ceiling, G, B}
 use Rattle.reckoning.specs.Arrays.{ratesOf, Years, Rates}
 use Rattle.reckoning.proofs.Pattern.{rate-at}
-use Rattle.reckoning.proofs.BoundLaws.{ceiling-high, G-step, G-most, B-most}
+use Rattle.reckoning.proofs.BoundLaws.{ceiling-high, G-step, G-most, B-most, ceiling-is}
 
 -- ---- a number without its sign
 pub abs-under : (z : ℤ) → z <ℤ pos 0 → pos 0 -ℤ z ≡ pos (natAbs z)
@@ -72,16 +72,9 @@ module _ {h n : ℕ} {g : ℤ} {k : ℕ} (s : Growing (pos h) n g k) where
   pub g-within : Within 4_294_967_296 g
   g-within = rw (s .is) (within-pos (omega (arith, most)))
 
-  pub product-within : Within 4_294_967_296_000_000 (g *ℤ pos h)
-  product-within = within-mul g-within (within-pos (s .small))
-
-  pub asked-within : Within 1_000_000_000_000_000_000 (g *ℤ pos h +ℤ pos 999_999)
-  asked-within = omega (whole, product-within, at (# (g *ℤ pos h) ⊕ # (pos 999_999)))
-
   module _ (b : k < n + 2) (d : ℤ) (e : d ≡ floor (g *ℤ pos h +ℤ pos 999_999) million) where
     down-is : d ≡ pos (ceiling (G h (k - 1) * h))
-    unfolding floor ceiling
-    down-is = e ∙ ap (λ (z : ℤ). floor (z *ℤ pos h +ℤ pos 999_999) million) (s .is)
+    down-is = ceiling-is h (s .is) e
 
     pub added-within : Within 4_294_967_296 (d +ℤ pos (3 * k - 5))
     added-within = rw down-is (within-pos (omega (arith, ceiling-high h (G h (k - 1)) (s .small), most)))

@@ -11,7 +11,8 @@ use Rattle.whole.specs.Floor.{floor}
 use Rattle.whole.proofs.Range.{within-fits, back, ok64}
 use Rattle.reckoning.specs.Arrays.{ratesOf}
 use Rattle.cash.specs.Account.{h as largestOf}
-use Rattle.cash.proofs.Bound.{Growing, grow-start, g-between, g-within, product-within, asked-within, added-within, grow-turn, grow-end, largest-few}
+use Rattle.reckoning.proofs.BoundLaws.{product-within, asked-within}
+use Rattle.cash.proofs.Bound.{Growing, grow-start, g-between, g-within, added-within, grow-turn, grow-end, largest-few}
 use Rattle.cash.proofs.bound_of.Statement.{statement}
 use Rattle.cash.proofs.bound_of.Tie as tie
 
@@ -41,10 +42,10 @@ module _ (c : tie.At-loop Inv-loop μ-loop) where
   grown = rw (most-is (c .before)) at (c .loop .inv)
 
   product-fits : SFits w64 (toZ w64 (c .loop .g) *ℤ pos (most (c .before)))
-  product-fits = within-fits (omega arith) (product-within grown)
+  product-fits = within-fits (omega arith) (product-within (g-within grown) (grown .small))
 
   asked-fits : SFits w64 (toZ w64 (c .loop .g) *ℤ pos (most (c .before)) +ℤ pos 999_999)
-  asked-fits = within-fits (omega arith) (asked-within grown)
+  asked-fits = within-fits (omega arith) (asked-within (g-within grown) (grown .small))
 
 mul-down : tie.Need-mul-down Inv-loop μ-loop
 mul-down c = rw (most-is (c .before .before)) (product-fits (c .before))
@@ -53,7 +54,7 @@ add-down : tie.Need-add-down Inv-loop μ-loop
 add-down c = rw (most-is (c .before .before)) (simp (back, product-fits (c .before)) (asked-fits (c .before)))
 
 down-requires : tie.Need-down-requires Inv-loop μ-loop
-down-requires c κs = rw (most-is (c .before .before)) (simp (back, product-fits (c .before), asked-fits (c .before)) (asked-within (grown (c .before))))
+down-requires c κs = rw (most-is (c .before .before)) (simp (back, product-fits (c .before), asked-fits (c .before)) (asked-within (g-within (grown (c .before))) (grown (c .before) .small)))
 
 module _ (c : tie.After-down Inv-loop μ-loop) where
   abbrev a : tie.At-loop Inv-loop μ-loop
