@@ -65,7 +65,7 @@ shapeRefusal P lending borrowing =
     (lengthsRefusal (P .years) lending borrowing)
 
 module _ (P : Numbers) (lending borrowing : ℕ → ℤ) where
-  -- then 6 and 7, 13 and 8 on the patterns, 8 and 14 on the lists, 9
+  -- then, check 3 having passed, 6 and 7, 13 and 8 on the patterns, 8 and 14 on the lists, 9
   unfoldable pub numbersRefusal : ℕ
   numbersRefusal = refusalWith P (listsRefusal (P .years) lending borrowing)
 
