@@ -27,7 +27,7 @@ module _ (P : Numbers) (no : refusalOf P ≡ 13 → ⊥) where
   unfolding untilsOk
   untils-meant = all-yes (P .patterns) _ (λ t h. refl)
 
-  refusal-meant : refusalOf P ≡ refusalOf (meant P)
+  pub refusal-meant : refusalOf P ≡ refusalOf (meant P)
   unfolding refusalOf headRefusal amountsRefusal ratesRefusal allocationRefusal headOk paymentsOk paymentsFit outflowsOk openingOk amountsOk rolloverOk ratesOk ratesFit allocationOk
   refusal-meant = rw untils-meant (drop-13 (headRefusal P) (amountsRefusal P) (untilsOk P) (ratesOk P) (allocationRefusal P) (allocationRefusal P) no)
 
@@ -37,7 +37,7 @@ module _ (P : Numbers) (no : refusalOf P ≡ 13 → ⊥) where
       allocationOk
   refusal-with-meant lists = rw untils-meant (drop-13 (headRefusal P) (amountsRefusal P) (untilsOk P) (ratesOk P) (allocationRefusal P) (firstOf lists (allocationRefusal P)) no)
 
-  same-meant : SameAnswers P (meant P)
+  pub same-meant : SameAnswers P (meant P)
   unfolding fundAnswer boundAnswer boundOf formAnswer gammasAnswer callRefusal verdictAnswer planWord shortBits patternWord rowsOf rowOf judgementOf verdictRefusal
   same-meant = record {
     fund = λ t. rw refusal-meant;

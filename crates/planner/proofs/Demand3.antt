@@ -106,7 +106,7 @@ module _ (plan : Plan) (t : ℕ) where
     unfolding noneNegative
     none-negative = all-yes (P .years - 1) _ (λ l b. le-leZ (pos 0) (P .i t (2 + l)) (ok .rates t (2 + l) .low))
 
-    fund-below : FromBelow (P .years) (exactFund P t) (fundOf P t) (boundOf P t)
+    pub fund-below : FromBelow (P .years) (exactFund P t) (fundOf P t) (boundOf P t)
     fund-below = pattern-fund-close .below none-negative
 
     form-below : FromBelow (P .years) (exactFund P t) (valueAt (sharedOf P) (P .i t)) (2 * boundOf P t + 1)

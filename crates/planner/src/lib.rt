@@ -92,7 +92,7 @@ fn rates_of(plan: Plan, t: usize) -> [i64; 30]
 }
 
 // The payments of instruments 1 to n in years 1 to N, and zeros past either.
-fn payments_of(plan: Plan) -> [[i64; 30]; 16]
+pub fn payments_of(plan: Plan) -> [[i64; 30]; 16]
     requires { ⌜ Accepted (numbers plan) ⌝ }
     ensures { λ s. ⌜ s ≡ paymentsRows (numbers plan) ⌝ }
 {
@@ -108,7 +108,7 @@ fn payments_of(plan: Plan) -> [[i64; 30]; 16]
 }
 
 // The flow of Q, which no allocation changes: b - o in years 1 to N, and zeros past them.
-fn constant_flow_of(plan: Plan) -> [i64; 30]
+pub fn constant_flow_of(plan: Plan) -> [i64; 30]
     requires { ⌜ Accepted (numbers plan) ⌝ }
     ensures { λ s. ⌜ s ≡ constantArray (numbers plan) ⌝ }
 {
@@ -124,7 +124,7 @@ fn constant_flow_of(plan: Plan) -> [i64; 30]
 }
 
 // What all patterns of the plan share, with the flow of Q, which the caller has made.
-fn common_of(plan: Plan, constant: [i64; 30]) -> Common
+pub fn common_of(plan: Plan, constant: [i64; 30]) -> Common
     requires { ⌜ Accepted (numbers plan) ⌝ }
     requires { ⌜ constant ≡ constantArray (numbers plan) ⌝ }
     ensures { λ s. ⌜ s ≡ commonOf plan ⌝ }
@@ -171,7 +171,7 @@ fn weighted(x: [i64; 16], p: [u32; 16], n: usize) -> i64
 }
 
 // The allocation's flow in years 1 to N, and zeros past them.
-fn flow_of(common: Common, payments: &[[i64; 30]; 16]) -> [i64; 30]
+pub fn flow_of(common: Common, payments: &[[i64; 30]; 16]) -> [i64; 30]
     requires { ⌜ Prepared common (now payments) ⌝ }
     ensures { λ s. ⌜ s ≡ flowArray (sharedIn common (now (payments .entry))) ⌝ }
 {
@@ -202,7 +202,7 @@ pub fn allocation_flow(plan: Plan) -> [i64; 30]
 // ---- one pattern, at the rates i
 
 // The fund of a flow; refused 11, and 0, where check 11 does not take it or a cell.
-fn fund_at(common: Common, flow: &[i64; 30], i: &[i64; 30]) -> Reckoned
+pub fn fund_at(common: Common, flow: &[i64; 30], i: &[i64; 30]) -> Reckoned
     requires { ⌜ Ready (common .terms) (common .rollover) (common .weights) (now i) ⌝ }
     requires { ⌜ Amounts (now flow) ⌝ }
     requires { ⌜ Years (common .years) ⌝ }
@@ -272,7 +272,7 @@ fn no_form(refusal: u8) -> FormAnswer
 }
 
 // K_1 to K_n, Q and the value at the allocation; refused 11, and zeros, where check 11 does not take an instrument or Q.
-fn form_at(common: Common, payments: &[[i64; 30]; 16], i: &[i64; 30]) -> FormAnswer
+pub fn form_at(common: Common, payments: &[[i64; 30]; 16], i: &[i64; 30]) -> FormAnswer
     requires { ⌜ Prepared common (now payments) ⌝ }
     requires { ⌜ Rates (now i) ⌝ }
     ensures { λ s. ⌜ s ≡ formReckoned (sharedIn common (now (payments .entry))) (ratesOf (now (i .entry))) ⌝ }
