@@ -43,7 +43,8 @@ extern "C" {
  * handlers use comes on top. It is not proved: tests/stack reads it off the compiled code, over every path, and measures it. */
 #define PLANNER_STACK_BYTES 98304
 
-/* What a call answers, by number: the checks in their order, but for 13, which stands right before 8, and 14, right after it. */
+/* What a call answers, by number: the checks in their order, but for 13, which stands right before 8, 14, right after it, and 15, after 9
+ * and before 10. */
 enum planner_refusal {
     PLANNER_ACCEPTED = 0,
     PLANNER_FILE_TOO_LONG = 1,   /* the file is longer than PLANNER_FILE_BYTES */
@@ -59,7 +60,8 @@ enum planner_refusal {
     PLANNER_OUT_OF_LIMIT = 11,   /* a cell, a fund or a cash account is outside +-1,000,000,000,000 */
     PLANNER_BUFFER_TOO_SHORT = 12, /* the buffer is shorter than the file that goes into it */
     PLANNER_SLOPE = 13,          /* the T of a slope is outside 1 to 30 */
-    PLANNER_BORROWING = 14       /* a borrowing rate is below the lending rate of its year */
+    PLANNER_BORROWING = 14,      /* a borrowing rate is below the lending rate of its year */
+    PLANNER_PARTS = 15           /* the number of parts is none of those that a search knows, or there are more than four instruments */
 };
 
 /* What is said of a pattern, and of a plan. Of a cash account the words say the same, with the exact account in the place of the fund. */
@@ -180,6 +182,14 @@ uint8_t planner_cash(const uint8_t *file, size_t file_length,
                      const int32_t *lending, size_t lending_length,
                      const int32_t *borrowing, size_t borrowing_length,
                      int64_t *account, int64_t *bound, uint8_t *word);
+
+/* An allocation that works: the first whose shares are multiples of 1,000,000 / parts and whose plan verdict is solvent. The order is by
+ * the larger share of instrument 1, then of 2, and so on. `parts` is 1, 2, 4, 5, 8, 10, 16, 20, 25 or 40, and the plan has at most four
+ * instruments; another number of either is refused 15. Answers 1 in `found` and the share of instrument j + 1 at place j of `shares`, or 0
+ * and zeros where there is no such allocation. The plan's own allocation is checked and has no part in it. Refusals 1 to 9, 13 and 15:
+ * an allocation whose verdict is refused 11 is not solvent, and the call itself is never refused 11. */
+uint8_t planner_find(const uint8_t *file, size_t file_length, size_t parts,
+                     uint8_t *found, uint32_t shares[PLANNER_AT_LEAST(PLANNER_INSTRUMENTS)]);
 
 /* planner_read and planner_write on a struct. */
 static inline uint8_t planner_read_plan(const uint8_t *file, size_t file_length, struct planner_plan *plan)

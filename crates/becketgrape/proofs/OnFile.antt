@@ -1,12 +1,16 @@
 -- The ways out of a call on a file, by what the file or its records were read as, and what the call's answer says of the exact fund or
 -- account.
-use mathlib.Core.Path.{_≡_, refl, sym, ap, _∙_}
+use mathlib.Core.Path.{_≡_, refl, sym, ap, _∙_, subst}
+use mathlib.Core.Bool.{Bool, true, false}
 use mathlib.Core.List.{List}
 use Prim.Native.Nat.{ℕ, zero, suc}
 use native.Mathlib.Omega.{arith}
+use lib.Dec.{leb}
 use lib.IntN.{ℤ}
+use lib.ListN.{length}
+use Rattle.plan.specs.Held.{noPlan, planFrom}
 use Rattle.plan.specs.Numbers.{Numbers, numbers}
-use Rattle.plan.specs.Refusal.{answer}
+use Rattle.plan.specs.Refusal.{check, firstOf, answer, refusalOf}
 use Rattle.planner.specs.Calls.{noFund, noForm, fundAnswer, formAnswer}
 use Rattle.planner.specs.Verdict.{noVerdict, verdictAnswer}
 use Rattle.planner.specs.Demand3.{FundNear, FormNear, VerdictTrue}
@@ -14,11 +18,18 @@ use Rattle.planner.proofs.Answers.{out-refused, out-accepted}
 use Rattle.cash.specs.Theorem.{CashTrue}
 use Rattle.cash.specs.Call.{noCash, cashAnswer}
 use Rattle.cash.proofs.Call.{cash-true}
-use Rattle.planfile.specs.Read.{numbersIn, recordsAnswer, readAnswer}
+use Rattle.finder.specs.Claims.{FindTrue}
+use Rattle.finder.specs.Find.{notFound, findAnswer}
+use Rattle.finder.proofs.Answer.{plan-11, find-11, find-true}
+use Rattle.planfile.specs.Read.{numbersIn, readRefusal, recordsAnswer, readAnswer}
+use Rattle.records.specs.Cursor.{wholeFile}
+use Rattle.planfile.specs.Checks.{shapeIn, firstOk, rolesOk, sizesOk, layoutRefusal}
+use Rattle.planfile.specs.Groups.{groupsOf}
+use Rattle.planfile.specs.Records.{heldIn}
 use Rattle.planfile.specs.declared.ReadAnswer.{ReadAnswer}
 use Rattle.planfile.proofs.Answers.{records-numbers, read-numbers}
 use Rattle.listing.proofs.Demand3.{of-file}
-use Rattle.becketgrape.specs.Calls.{onReading, onFile, fundOfFile, formOfFile, verdictOfFile, cashOfFile}
+use Rattle.becketgrape.specs.Calls.{onReading, onFile, fundOfFile, formOfFile, verdictOfFile, cashOfFile, findOfFile}
 
 module _ (s : List ℕ) {A : Type 0} (refused : ℕ → A) (call : Numbers → A) where
   -- a reading r, in which the file's numbers stand, and that was answered as a
@@ -81,3 +92,31 @@ cash-true-of s lending borrowing =
     either s noCash (λ P. cashAnswer P lending borrowing) (recordsAnswer s) (CashTrue (numbersIn s) lending borrowing)
     (λ n h. record { near = λ e. absurd (h e); bound = λ e. absurd (h e); is-solvent = λ e. absurd (h e); is-short = λ e. absurd (h e) })
     (λ e. cash-true (numbersIn s) lending borrowing)
+
+pub find-true-of : (s : List ℕ) (D : ℕ) → FindTrue (numbersIn s) D (findOfFile s D)
+unfolding findOfFile
+find-true-of s D =
+    either s notFound (λ P. findAnswer P D) (readAnswer s) (FindTrue (numbersIn s) D)
+    (λ n h. record { found = λ e. absurd (h e); none = λ e. absurd (h e); refused = λ e. refl; zeros = λ e. refl; own = λ e. absurd (h e) })
+    (λ e. subst (λ (P : Numbers). FindTrue P D (findAnswer P D)) (read-numbers s e) (find-true (readAnswer s .plan) D))
+
+-- no check of a file has the number 11, so that the search's call never has it
+layout-11 : (short whole head roles sizes : Bool) (after : ℕ) → (after ≡ 11 → ⊥) → firstOf (check short 1 (check whole 2 (check head 3 (check roles 4 (check sizes 5 0))))) after ≡ 11 → ⊥
+layout-11 false whole head roles sizes after h e = omega arith
+layout-11 true false head roles sizes after h e = omega arith
+layout-11 true true false roles sizes after h e = omega arith
+layout-11 true true true false sizes after h e = omega arith
+layout-11 true true true true false after h e = omega arith
+layout-11 true true true true true after h e = h e
+
+read-11 : (s : List ℕ) → readRefusal s ≡ 11 → ⊥
+unfolding readRefusal layoutRefusal
+read-11 s = layout-11 (leb (length s) 16_384) (wholeFile s) (firstOk s) (rolesOk s (groupsOf (shapeIn s))) (sizesOk s (shapeIn s)) (refusalOf (numbersIn s)) (plan-11 (numbersIn s))
+
+pub find-11-of : (s : List ℕ) (D : ℕ) → findOfFile s D .refusal ≡ 11 → ⊥
+unfolding findOfFile readAnswer
+find-11-of s D = go (readRefusal s) (read-11 s)
+  where
+    go : (n : ℕ) → (n ≡ 11 → ⊥) → answer notFound (answer {A = ReadAnswer} (λ n. record { refusal = n; plan = noPlan }) n (record { refusal = 0; plan = planFrom (heldIn s) }) .refusal) (findAnswer (numbersIn s) D) .refusal ≡ 11 → ⊥
+    go zero h e = find-11 (numbersIn s) D e
+    go (suc n) h e = h e

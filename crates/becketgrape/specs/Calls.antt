@@ -15,6 +15,8 @@ use Rattle.planner.specs.declared.FormAnswer.{FormAnswer}
 use Rattle.planner.specs.declared.VerdictAnswer.{VerdictAnswer}
 use Rattle.cash.specs.declared.CashAnswer.{CashAnswer}
 use Rattle.cash.specs.Call.{noCash, cashAnswer}
+use Rattle.finder.specs.declared.FindAnswer.{FindAnswer}
+use Rattle.finder.specs.Find.{notFound, findAnswer}
 use Rattle.planfile.specs.declared.ReadAnswer.{ReadAnswer}
 use Rattle.planfile.specs.Read.{numbersIn, recordsAnswer, readAnswer}
 
@@ -47,3 +49,7 @@ module _ (s : List ℕ) where
   -- the cash account
   unfoldable pub cashOfFile : (lending borrowing : List ℤ) → CashAnswer
   cashOfFile lending borrowing = onReading (recordsAnswer s) noCash (λ P. cashAnswer P lending borrowing)
+
+  -- the search for an allocation in so many parts
+  unfoldable pub findOfFile : (parts : ℕ) → FindAnswer
+  findOfFile parts = onFile notFound (λ P. findAnswer P parts)

@@ -1,5 +1,6 @@
 // The planner for programs in C: every call over a plan file's bytes, its answer in lent buffers. include/planner.h declares them.
 use cash::CashAnswer;
+use finder::FindAnswer;
 use planner::BoundAnswer;
 use planner::FormAnswer;
 use planner::VerdictAnswer;
@@ -7,11 +8,14 @@ use reckoning::GammaTable;
 use reckoning::Reckoned;
 use reckoning::Row;
 ghost use mathlib.Core.Path.{_≡_};
+ghost use Prim.Native.Nat.{_≤_};
+ghost use lib.Dec.{eqb};
 ghost use lib.ListN.{take};
 ghost use Rattle.io.specs.Counts.{Counts};
 ghost use Rattle.listing.specs.Text.{textOf};
 ghost use Rattle.listing.specs.Putting.{Listed};
 ghost use Rattle.listing.specs.Demands.{Demands};
+ghost use Rattle.whole.specs.Test.{pick};
 ghost use Rattle.planfile.specs.Records.{heldIn};
 ghost use Rattle.planfile.specs.Read.{numbersIn, readAnswer};
 ghost use Rattle.planfile.specs.Write.{writeAnswer, bufferAfter};
@@ -20,7 +24,9 @@ ghost use Rattle.arrays.specs.Arrays.{allCounts, allAmounts, allShares, allRate
 ghost use Rattle.planner.specs.Demand3.{FundNear, FormNear, VerdictTrue};
 ghost use Rattle.cash.specs.Theorem.{NearEveryYear, CashTrue};
 ghost use Rattle.cash.specs.Alike.{CashAlike};
-ghost use Rattle.becketgrape.specs.Calls.{fundOfFile, boundOfFile, formOfFile, gammasOfFile, verdictOfFile, cashOfFile};
+ghost use Rattle.finder.specs.Claims.{FindTrue};
+ghost use Rattle.finder.specs.Alike.{FindAlike};
+ghost use Rattle.becketgrape.specs.Calls.{fundOfFile, boundOfFile, formOfFile, gammasOfFile, verdictOfFile, cashOfFile, findOfFile};
 
 // The listing of a file, in the first bytes of `out`: how many they are.
 #[no_mangle]
@@ -295,5 +301,53 @@ pub extern "C" fn planner_cash(
     *bound = g;
     let said = answer.word;
     *word = said;
+    answer.refusal
+}
+
+// ---- the search for an allocation
+
+fn find_of_file(file: &[u8], parts: usize) -> FindAnswer
+    ensures { λ s. ⌜ s ≡ findOfFile (now (file .entry)) parts ⌝ }
+{
+    let found = reader::read(file, true);
+    let no = found.refusal;
+    if no != 0 {
+        return FindAnswer {
+            refusal: no,
+            found: false,
+            shares: [0u32; 16],
+        };
+    }
+    let plan = found.plan;
+    finder::find_accepted(plan, parts)
+}
+
+// 1 for true, 0 for false.
+fn bit(b: bool) -> u8
+    ensures { λ r. ⌜ r ≡ pick b 1 0 ⌝ }
+{
+    if b { 1 } else { 0 }
+}
+
+// An allocation in so many parts whose verdict is solvent: `found` is 1, and the shares are its own; or 0 and zeros, where there is none.
+#[no_mangle]
+pub extern "C" fn planner_find(
+    file: &[u8],
+    parts: usize,
+    found: &mut u8,
+    shares: &mut [u32; 16],
+) -> u8
+    ensures is { λ r. ⌜ record { refusal = r; found = eqb (now (found .exit)) 1; shares = now (shares .exit) } ≡ findOfFile (now (file .entry)) parts ⌝ }
+    ensures bit { λ _. ⌜ now (found .exit) ≤ 1 ⌝ }
+    ensures says { λ r. ⌜ FindTrue (numbersIn (now (file .entry))) parts
+        (record { refusal = r; found = eqb (now (found .exit)) 1; shares = now (shares .exit) }) ⌝ }
+    ensures never { λ r. ⌜ (r ≡ 11 → ⊥) ⌝ }
+    ensures alike { λ _. ⌜ FindAlike (heldIn (now (file .entry))) parts ⌝ }
+{
+    let answer = find_of_file(file, parts);
+    let good = answer.found;
+    *found = bit(good);
+    let each = answer.shares;
+    *shares = each;
     answer.refusal
 }
