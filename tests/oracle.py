@@ -1,15 +1,19 @@
-"""Document 01, with the money already invested, the rising and falling rates and the cash account of document 02, in unbounded whole
-numbers: what a plan file is read as, what each call answers, what the program prints. The exact account of the cash is in fractions.
+"""Document 01, with the money already invested, the rising and falling rates, the cash account and the search for an allocation of
+document 02, in unbounded whole numbers: what a plan file is read as, what each call answers, what the program prints. The exact account
+of the cash is in fractions.
 
-Written from the papers alone. It is slow and plain on purpose: every sum is the paper's sum, and nothing is cut short.
+Written from the papers alone. It is slow and plain on purpose: every sum is the paper's sum, and nothing is cut short but a search over many
+allocations (`solvents`).
 """
 import collections
 import copy
+import itertools
 import struct
 from fractions import Fraction
 
 MILLION = 10 ** 6
 LIMIT = 10 ** 12
+SMALL = 4_000  # years, terms, patterns and allocations of a search, multiplied
 WORDS = {1: "solvent", 2: "short", 3: "close"}
 
 
@@ -269,12 +273,17 @@ def cells(plan, t, flow):
     return alpha
 
 
+def left_of(plan, alpha):
+    """The fund of cells, whatever they come to."""
+    return sum(share(alpha[k], w(plan, plan.N + 1 - k)) for k in range(2, plan.N + 2))
+
+
 def fund(plan, t, flow):
     """The fund of a flow in pattern t, with check 11 on its cells and on itself."""
     alpha = cells(plan, t, flow)
     for x in alpha.values():
         taken(x)
-    return taken(sum(share(alpha[k], w(plan, plan.N + 1 - k)) for k in range(2, plan.N + 2)))
+    return taken(left_of(plan, alpha))
 
 
 # ---- Tilley's exact fund
@@ -420,6 +429,103 @@ def crossings(account):
 def apart(V, X):
     """Whether, in some year, the found account is below zero and the exact one is not."""
     return any(V[t] < 0 <= X[t] for t in V)
+
+
+# ---- the search for an allocation
+
+
+PARTS = [1, 2, 4, 5, 8, 10, 16, 20, 25, 40]
+
+
+def grid(n, parts):
+    """Every allocation among n instruments whose shares are multiples of 1,000,000 / D: the larger share of instrument 1 first, then of
+    2, and so on."""
+    for counts in itertools.product(range(parts, -1, -1), repeat=n - 1):
+        if sum(counts) <= parts:
+            yield [MILLION // parts * count for count in (*counts, parts - sum(counts))]
+
+
+def allocated(plan, shares):
+    """The plan with another allocation."""
+    other = copy.copy(plan)
+    other.allocation = shares
+    return other
+
+
+def form_refused(plan):
+    """Whether K_1 to K_n and Q are refused 11 in some pattern: so is then every verdict, whatever the allocation."""
+    return any(refusal(form, plan, t) for t in range(1, plan.m + 1))
+
+
+def against(plan, order):
+    """The first pattern, as they are ordered, whose fund is below 0 or refused 11; None if there is none."""
+    x = flow(plan)
+    for t in order:
+        try:
+            if fund(plan, t, x) < 0:
+                return t
+        except Refused:
+            return t
+    return None
+
+
+def solvents(plan, parts):
+    """The allocations of the grid whose plan verdict is solvent, in their order. K_1 to K_n and Q are reckoned once, and an allocation is
+    put first to the pattern that was against the one before it."""
+    if form_refused(plan):
+        return
+    order = list(range(1, plan.m + 1))
+    for shares in grid(plan.n, parts):
+        t = against(allocated(plan, shares), order)
+        if t is None:
+            yield shares
+        else:
+            order.remove(t)
+            order.insert(0, t)
+
+
+def funds(plan):
+    """The fund of each pattern, None where it is refused 11."""
+    x, found = flow(plan), []
+    for t in range(1, plan.m + 1):
+        try:
+            found.append(fund(plan, t, x))
+        except Refused:
+            found.append(None)
+    return found
+
+
+def solvents_plainly(plan, parts):
+    """The same, by the verdict on the plan with each of them."""
+    for shares in grid(plan.n, parts):
+        try:
+            if verdict(allocated(plan, shares))[2] == 1:
+                yield shares
+        except Refused:
+            pass
+
+
+def find(data, parts):
+    """Whether an allocation of the grid is solvent, and the first that is; zero shares where none is. Check 15 comes after 9, and the call
+    is never refused 11. A small search asks for the verdict on every allocation up to the one that is found."""
+    plan = read(data)
+    if parts not in PARTS or plan.n > 4:
+        raise Refused(15)
+    small = plan.N * plan.q * plan.m * sum(1 for _ in grid(plan.n, parts)) <= SMALL
+    shares = next((solvents_plainly if small else solvents)(plan, parts), None)
+    return (0, [0] * plan.n) if shares is None else (1, shares)
+
+
+def untrue_found(plan, parts, shares):
+    """What document 02 says of an allocation that was found: the first that is not so, or nothing."""
+    if any(share % (MILLION // parts) for share in shares) or sum(shares) != MILLION:
+        return "on the grid"
+    other = allocated(plan, shares)
+    if verdict(other)[2] != 1:
+        return "solvent"
+    if any(exact(other, t) < 0 for t in range(1, plan.m + 1)):
+        return "zero or more in every pattern"
+    return None
 
 
 # ---- what is refused through the opening, through slopes or through lists

@@ -1,11 +1,13 @@
-"""Plans from a seed, damaged files, and lists of rates and plans for cash accounts.
+"""Plans from a seed, damaged files, lists of rates and plans for cash accounts, and plans to find an allocation for.
 
 Sizes go over all of N, n, q and m; notes are plain or odd; half of the plans hold an opening; outflows are matched to the flow,
 so that funds lie within a few units of zero and loans roll into loans to the last year; rates are level, rising or wild, and are
 listed, meant by slopes, or some the one and some the other; amounts, and the rates that a slope means, lie at the ends of their ranges,
 its start and step at those of 32 bits, and cells and funds at 10^12 and one past it, on both sides of zero. Lists are right, or fail one
-check or more; accounts lie near zero in the last year or in most years, change sides often, and come to 10^12 and one past it.
+check or more; accounts lie near zero in the last year or in most years, change sides often, and come to 10^12 and one past it. Of the
+allocations that a search goes through one is good, by nothing or by little, or some, all or none are; and some, or all, are refused 11.
 """
+import math
 import struct
 
 import oracle
@@ -189,7 +191,7 @@ def at_the_limit(rng):
 
     def reached(flow):
         alpha = oracle.cells(plan, t, flow)
-        return alpha[N] if where == "cell" else sum(oracle.share(alpha[k], oracle.w(plan, N + 1 - k)) for k in alpha)
+        return alpha[N] if where == "cell" else oracle.left_of(plan, alpha)
 
     wanted = sign * (oracle.LIMIT + rng.choice([0, 0, 1, 1, 10 ** 6]))
     step = wanted * 10 ** 9 // reached(flow(10 ** 9, 10 ** 9))
@@ -564,3 +566,215 @@ def account(rng):
     """A kind, and a plan and two lists of that kind."""
     kind = rng.choices(list(ACCOUNTS), ACCOUNTS.values())[0]
     return kind, *kind(rng)
+
+
+# ---- searches for an allocation
+
+
+WRONG_PARTS = [0, 3, 6, 7, 9, 11, 15, 32, 39, 41, 50, 80, 100, 1000, oracle.MILLION, 2 ** 64 - 1]
+WORK = 15000  # the most that the oracle is to reckon for one search, in steps of a fund
+
+
+def work(plan, parts):
+    """The steps of all funds of a search, of every allocation in every pattern."""
+    return math.comb(parts + plan.n - 1, plan.n - 1) * plan.m * (plan.N * plan.N + 8)
+
+
+def few_parts(rng, plan):
+    """A number of parts with which the oracle is soon done, where there is one."""
+    return rng.choice([parts for parts in oracle.PARTS if work(plan, parts) <= WORK] or [1])
+
+
+def wrong_parts(rng):
+    right = rng.choice(oracle.PARTS)
+    past = [2 ** 8 + right, 2 ** 32 + right, 2 ** 63 + right, rng.randint(41, 2 ** 64 - 1)]
+    return rng.choice([rng.choice(WRONG_PARTS), rng.choice(past)])
+
+
+def with_more(rng, plan):
+    """The plan with more than four instruments; five as often as not."""
+    n = rng.choice([5, rng.randint(5, 16)])
+    more = [note(rng, plan.N) for _ in range(n - plan.n)]
+    return oracle.Plan(plan.payments + more, plan.outflows, plan.rollover, plan.patterns, plan.allocation + [0] * len(more), plan.opening)
+
+
+def rivals(rng, N, n):
+    """Notes for the same money with coupons that are near one another: which of them is the best one goes by the rates."""
+    coupon, found = rng.randint(0, TOP - 20000), []
+    for _ in range(n):
+        end, paid = rng.randint(1, N), 1000 * (coupon + rng.randint(0, 20000))
+        found.append([paid + (10 ** 9 if k == end else 0) if k <= end else 0 for k in range(1, N + 1)])
+    return found
+
+
+def twins(rng, N, n):
+    """Notes that pay the same but for a few units."""
+    row, most = note(rng, N), rng.choice([1, 3, 20])
+    return [[min(MOST, amount + rng.randint(0, most)) for amount in row] for _ in range(n)]
+
+
+def to_search(rng, notes):
+    """A plan of few years with such notes, and a number of parts; now and then the largest number of allocations, or of patterns."""
+    kind = rng.random()
+    N, n, m = rng.choice([1, 2, 2, 3, 3, 3, 4, 5, 6]), rng.choice([1, 2, 2, 2, 2, 3, 3, 3, 4, 4]), rng.choice([1, 2, 2, 3, 4])
+    if kind < 0.008:
+        N, n, m = rng.randint(1, 2), 4, 1
+    elif kind < 0.05:
+        N, n, m = rng.randint(2, 3), 2, 64
+    outflows = [rng.randint(0, 5 * 10 ** 8) for _ in range(N)]
+    plan = oracle.Plan(notes(rng, N, n), outflows, parts(rng, rng.randint(1, N)), patterns(rng, N, m), parts(rng, n), opening(rng, N))
+    return plan, 40 if kind < 0.008 else few_parts(rng, plan)
+
+
+def torn(rng):
+    """A plan whose instruments are worth the same, but each is worth less in one of the patterns: the best allocation has some of each."""
+    n = rng.randint(2, 4)
+    rates = [[100000] * n for _ in range(n)]
+    for j, row in enumerate(rates):
+        # what instrument j pays grows less after its year, and what was paid before grows more in the year before
+        row[j] = rng.randint(40000, 90000)
+        if j:
+            row[j - 1] = 1210000 * oracle.MILLION // (oracle.MILLION + row[j]) - oracle.MILLION
+    payments = [[11 ** j * 10 ** (9 - j) if k == j else 0 for k in range(n + 1)] for j in range(n)]
+    rng.shuffle(rates)
+    plan = oracle.Plan(payments, [0] * (n + 1), [oracle.MILLION], rates, parts(rng, n))
+    return plan, few_parts(rng, plan)
+
+
+def by_worth(plan, parts):
+    """The allocations of the grid, the one with the largest least fund first, as the forms have it."""
+    forms = [oracle.form(plan, t)[:2] for t in range(1, plan.m + 1)]
+
+    def worth(shares):
+        return min(sum(k * p for k, p in zip(K, shares)) // oracle.MILLION + Q for K, Q in forms)
+
+    return sorted(oracle.grid(plan.n, parts), key=worth, reverse=True)
+
+
+def moved(plan, shares, wanted):
+    """The last outflow moved such that with these shares the least fund of all patterns is `wanted`, if it stays in its range."""
+    x = oracle.flow(oracle.allocated(plan, shares))
+    last = plan.outflows[-1] - wanted + min(oracle.fund(plan, t, x) for t in range(1, plan.m + 1))
+    if -MOST <= last <= MOST:
+        plan.outflows[-1] = last
+
+
+def ranked(rng, plan, parts):
+    """Of all allocations the best one, one of any rank or one of the worst comes to a least fund of 0, or just about 0. The plan's own
+    allocation is that one, the worst one, another of the grid, or any. Now and then it is the best one, and fewer parts are asked for."""
+    order = by_worth(plan, parts)
+    if rng.random() < 0.1:
+        plan.allocation = order[0]
+        moved(plan, order[0], 0)
+        return plan, rng.choice([one for one in oracle.PARTS if one <= parts])
+    shares = rng.choice([order[0]] * 4 + [order[-1], order[max(0, len(order) - 2)], rng.choice(order), rng.choice(order)])
+    plan.allocation = rng.choice([shares, order[-1], rng.choice(order), plan.allocation])
+    moved(plan, shares, rng.choice([0, 0, 0, 1, -1, rng.randint(-5, 5)]))
+    return plan, parts
+
+
+def among_rivals(rng):
+    return ranked(rng, *to_search(rng, rivals))
+
+
+def among_twins(rng):
+    return ranked(rng, *to_search(rng, twins))
+
+
+def among_any(rng):
+    return ranked(rng, *to_search(rng, lambda rng, N, n: [note(rng, N) for _ in range(n)]))
+
+
+def some_of_each(rng):
+    return ranked(rng, *torn(rng))
+
+
+def cuts_in_flows(rng):
+    """Nothing is cut but the flow of each year. Where that takes off most the fund is -1, and the form's value 0 or more."""
+    N, n = rng.randint(2, 6), rng.randint(2, 4)
+    plan = oracle.Plan(twins(rng, N, n), [0] * N, [oracle.MILLION], [[0] * (N - 1)], parts(rng, n), opening(rng, N))
+    asked = few_parts(rng, plan)
+
+    def cut(shares):
+        return sum(x % oracle.MILLION for x in oracle.uncut(oracle.allocated(plan, shares)).values())
+
+    moved(plan, max(oracle.grid(n, asked), key=cut), -1)
+    return plan, asked
+
+
+def cuts_apart(rng):
+    """With one part of the second instrument and the others of the first every flow is 0, and so is the fund. The cuts take off K_1 and Q
+    as much as they can, K_2 hardly counts, and the form's value is below the fund by about as much as it can be: by more than B, and where
+    rates are the highest by more than twice the B of a pattern whose rates are 0."""
+    parts, terms, rate = rng.choice([16, 20, 25, 40]), rng.choice([40, 50, 100]), rng.choice([10000, 20000, 25000, TOP, TOP])
+    N = rng.randint(14, 16) if rate == TOP else rng.choice([30, rng.randint(8, 12)])
+    each, level, none = oracle.MILLION // terms, [rate] * (N - 1), [0] * (N - 1)
+    rates = rng.choice([[level], [level, none], [none, level], [pattern(rng, N), level]])
+    plan = oracle.Plan([[0] * N, [0] * N], [0] * N, [each] * (N - 1) + [oracle.MILLION - each * (N - 1)], rates, [0, oracle.MILLION])
+    t = rates.index(level) + 1
+    # one below a multiple of this is cut by nearly 1 in each share, of what is rolled over and of the interest
+    period = terms * oracle.MILLION // rate
+
+    def above(flow, k):
+        """How far the cell of year k lies above one below a multiple."""
+        return (oracle.cells(plan, t, flow)[k + 1] + 1) % period
+
+    for k in range(1, N + 1):
+        paid = dict(enumerate(plan.payments[0], 1))
+        paid[k] = rng.randint(10 ** 6, 10 ** 8)
+        paid[k] -= above(paid, k)
+        owed = {year: -amount for year, amount in enumerate(plan.outflows, 1)}
+        owed[k] = -paid[k]
+        more = above(owed, k) + period * rng.randint(0, 5)
+        plan.payments[0][k - 1], plan.payments[1][k - 1], plan.outflows[k - 1] = paid[k], paid[k] + parts * more, paid[k] + more
+    plan.outflows[-1] -= rng.choice([0, 0, 0, 1, 5, -1])
+    return plan, parts
+
+
+def reaching(plan, t, end, wanted, beside):
+    """Amounts that are level up to the year `end`, and then 0, which with those beside them bring the cell of that year to `wanted`."""
+
+    def cell(step):
+        return oracle.cells(plan, t, {k: beside[k] + (step if k <= end else 0) for k in oracle.years(plan)})[end + 1]
+
+    step = (wanted - cell(0)) * 10 ** 9 // (cell(10 ** 9) - cell(0))
+    return [step] * (end - 1) + [step + wanted - cell(step)] + [0] * (plan.N - end)
+
+
+def passes_the_limit(rng):
+    """In one of the patterns one K_j, Q or the fund of one allocation comes to the limit or past it; or the last cell but one of Q or of
+    one allocation does, and its fund does not. Where it is a K_j or Q, some allocations, or all, have funds that are taken and above 0."""
+    N, n, m = rng.randint(16, 18), rng.choice([2, 2, 2, 3]), rng.randint(1, 3)
+    whose, past = rng.choice(["K", "Q", "fund", "cell"]), oracle.LIMIT + rng.choice([0, 0, 1, 1, 10 ** 6])
+    t, end = rng.randint(1, m), N if whose in ("K", "fund") else N - 1
+    rates = [[rng.randint(0, 20000)] * (N - 1) for _ in range(m)]
+    rates[t - 1] = [rng.randint(190000, TOP)] * (end - 1) + [0] * (N - end)
+    plan = oracle.Plan([[0] * N] * n, [0] * N, [oracle.MILLION], rates, parts(rng, n))
+    asked, nothing = few_parts(rng, plan), dict.fromkeys(oracle.years(plan), 0)
+    K = [rng.randint(10 ** 9, 9 * 10 ** 11) for _ in range(n)]
+    if whose == "K":
+        K[rng.randrange(n)] = past
+    elif whose == "Q":
+        K = [oracle.LIMIT - rng.randint(1, 10 ** 10) for _ in range(n)]
+    plan.payments = [reaching(plan, t, end, one, nothing) for one in K]
+    if whose in ("K", "Q"):
+        owed = reaching(plan, t, end, -rng.randint(1, max(K)) if whose == "K" else -past, nothing)
+    else:
+        shares = rng.choice(list(oracle.grid(n, asked)))
+        owed = reaching(plan, t, end, past, oracle.flow(oracle.allocated(plan, shares)))
+    plan.outflows = [-x for x in owed]
+    if whose in ("Q", "cell"):
+        plan.outflows[-1] = -MOST if whose == "Q" else rng.randint(1, 10 ** 10)
+    if rng.random() < 0.5:
+        plan.opening = [max(0, -o) for o in plan.outflows]
+        plan.outflows = [max(0, o) for o in plan.outflows]
+    return plan, asked
+
+
+# The kinds of searches, and how many there are of each.
+SEARCHES = {among_rivals: 4, among_twins: 2, among_any: 2, some_of_each: 2, cuts_in_flows: 1, cuts_apart: 1, passes_the_limit: 2}
+
+
+def search(rng):
+    """A plan and a number of parts of one of these kinds."""
+    return rng.choices(list(SEARCHES), SEARCHES.values())[0](rng)
