@@ -1,6 +1,6 @@
 /* The driver of tests/calls: takes requests from standard input, makes every call of planner.h on each, or only that for the cash
- * account, and prints what it got, a line a call. A request is struct request as it stands, then the bytes of the file, the lending
- * rates and the borrowing rates.
+ * account or that for an allocation, and prints what it got, a line a call. A request is struct request as it stands, then the bytes of
+ * the file, the lending rates and the borrowing rates.
  *
  * What is lent to be read ends where memory ends, so that reading past it stops the driver. What is lent to be filled lies between
  * guards; it and they hold known bytes before the call. A line ends in ` guards` if one of these changed, and in ` lent` if what
@@ -22,8 +22,10 @@ enum {
     SECONDS = 20 /* for all calls of a request */
 };
 
+enum only { EVERY_CALL, ONLY_CASH, ONLY_FIND };
+
 struct request {
-    uint64_t file_length, lending_length, borrowing_length, only_cash, pattern, room, fill;
+    uint64_t file_length, lending_length, borrowing_length, only, pattern, parts, room, fill;
     size_t counts[PLANNER_COUNTS];
     int64_t amounts[PLANNER_AMOUNTS];
     uint32_t shares[PLANNER_SHARES];
@@ -293,6 +295,18 @@ static void call_cash(const uint8_t *bytes, const int32_t *lending, const int32_
     end();
 }
 
+static void call_find(const uint8_t *bytes)
+{
+    begin("find");
+    const uint8_t *file = source(bytes, request.file_length);
+    uint8_t *found = target(1);
+    uint32_t *shares = target(PLANNER_INSTRUMENTS * sizeof *shares);
+    put(planner_find(file, request.file_length, request.parts, found, shares));
+    put(*found);
+    put_unsigned(shares, PLANNER_INSTRUMENTS);
+    end();
+}
+
 /* Takes `count` elements of a request, of which there can be `most`. */
 static void take(void *to, size_t size, size_t count, size_t most)
 {
@@ -311,7 +325,7 @@ int main(void)
         take(lending, sizeof *lending, request.lending_length, LIST);
         take(borrowing, sizeof *borrowing, request.borrowing_length, LIST);
         alarm(SECONDS);
-        if (!request.only_cash) {
+        if (request.only == EVERY_CALL) {
             call_read(bytes);
             call_write();
             call_again(bytes);
@@ -322,7 +336,10 @@ int main(void)
             call_verdict(bytes);
             call_list(bytes);
         }
-        call_cash(bytes, lending, borrowing);
+        if (request.only != ONLY_FIND)
+            call_cash(bytes, lending, borrowing);
+        if (request.only != ONLY_CASH)
+            call_find(bytes);
         fflush(stdout);
         alarm(0);
     }
