@@ -4,13 +4,14 @@
  *
  * makes one call on a thread whose stack has just that many bytes, and prints the refusal that it answered and how many of the
  * bytes were used. FILE is the plan file, and NUMBER the pattern; for `write`, FILE is a struct planner_plan as it stands, and
- * NUMBER the length of the buffer; for `cash`, NUMBER is how many rates each list has, all of them RATE. The call `nothing` does nothing:
- * what it uses is the thread's own. The stack holds known bytes before, and an inaccessible page lies below it.
+ * NUMBER the length of the buffer; for `cash`, NUMBER is how many rates each list has, all of them RATE; for `find`, NUMBER is the number
+ * of parts. The call `nothing` does nothing: what it uses is the thread's own. The stack holds known bytes before, and an inaccessible page
+ * lies below it.
  *
  *     stack together FILE FILE ..
  *
- * makes every call on each file alone, and then many times on a thread for each file, all threads at once. It ends with status 1
- * if an answer differs. */
+ * makes every call on each file alone, and then many times on a thread for each file, all threads at once; `find` in PARTS parts. It ends
+ * with status 1 if an answer differs. */
 #define _GNU_SOURCE
 #include <pthread.h>
 #include <stdio.h>
@@ -21,12 +22,12 @@
 
 #include "planner.h"
 
-enum { CALLS = 9, KNOWN = 0xa5, RATE = 200000, ROUNDS = 100, SECONDS = 60 };
+enum { CALLS = 10, KNOWN = 0xa5, PARTS = 40, RATE = 200000, ROUNDS = 100, SECONDS = 60 };
 
 /* What is asked, and room for every answer. */
 struct work {
     const uint8_t *file;
-    size_t file_length, pattern, room, rates;
+    size_t file_length, pattern, room, rates, parts;
     struct planner_plan plan;
     uint8_t written[PLANNER_FILE_BYTES], listing[PLANNER_LISTING_BYTES];
     size_t written_length, listing_length;
@@ -34,7 +35,8 @@ struct work {
     uint8_t words[PLANNER_PATTERNS], word;
     uint64_t shorts;
     int64_t account, account_bound;
-    uint8_t account_word;
+    uint8_t account_word, found;
+    uint32_t shares[PLANNER_INSTRUMENTS];
     uint8_t refusals[CALLS];
 };
 
@@ -106,6 +108,11 @@ static uint8_t call_cash(struct work *w)
     return planner_cash(w->file, w->file_length, rates, w->rates, rates, w->rates, &w->account, &w->account_bound, &w->account_word);
 }
 
+static uint8_t call_find(struct work *w)
+{
+    return planner_find(w->file, w->file_length, w->parts, &w->found, w->shares);
+}
+
 typedef uint8_t a_call(struct work *w);
 
 static const struct {
@@ -113,7 +120,8 @@ static const struct {
     a_call *call;
 } calls[CALLS] = {
     {"read", call_read}, {"write", call_write}, {"fund", call_fund}, {"bound", call_bound},
-    {"form", call_form}, {"gammas", call_gammas}, {"verdict", call_verdict}, {"list", call_list}, {"cash", call_cash},
+    {"form", call_form}, {"gammas", call_gammas}, {"verdict", call_verdict}, {"list", call_list},
+    {"cash", call_cash}, {"find", call_find},
 };
 
 static a_call *call_of(const char *name)
@@ -161,6 +169,7 @@ static struct work *work_on(const char *path, size_t pattern, size_t room)
     w->pattern = pattern;
     w->room = room;
     w->rates = w->file_length > 4 && bytes[4] >= 1 && bytes[4] <= PLANNER_YEARS ? bytes[4] - 1u : 0;
+    w->parts = PARTS;
     return w;
 }
 
@@ -211,6 +220,8 @@ static int one_call(char **argv)
         need(number <= PLANNER_YEARS + 1, "too many rates");
         w->rates = number;
     }
+    if (the_call == call_find)
+        w->parts = number;
     return measure(number_of(argv[1]), w);
 }
 
@@ -238,6 +249,7 @@ static void ask_again(struct work *w, const struct work *of)
     w->pattern = of->pattern;
     w->room = of->room;
     w->rates = of->rates;
+    w->parts = of->parts;
 }
 
 static void *make_again(void *at)
