@@ -1,9 +1,10 @@
-/* One verdict and one cash account by the library and in C on the same file, which must agree; then each again and again, timed.
+/* Calls of the library and the same in C on one file, which must agree; then each again and again, timed.
  *
- *     measure FILE VERDICTS ACCOUNTS
+ *     measure FILE PARTS CALL ROUNDS [CALL ROUNDS]...
  *
- * prints for the verdict, and on a second line for the cash account, the refusal, the word, and the nanoseconds per call of the library
- * and of C: the least of five turns of so many calls each, taken in turn; 0 where they are none. */
+ * where a CALL is verdict, cash or find, which alone asks for the PARTS. Prints for each a line: the refusal, the word (of find, whether
+ * an allocation is found), and the nanoseconds per call of the library and of C. With 0 rounds each is called once, and the times are 0.
+ * With 1, the times are of these calls. With more, they are the least of five turns of so many calls each, taken in turn. */
 #include <stdbool.h>
 #include <stdio.h>
 #include <stdlib.h>
@@ -13,15 +14,19 @@
 #include "planner.h"
 #include "verdict.h"
 
-/* A file, and the lists of an account: `rates` in each. */
+/* A file, the parts of a search, and the lists of an account: `rates` in each. */
 struct request {
-    size_t length, rates;
+    size_t length, parts, rates;
     uint8_t file[PLANNER_FILE_BYTES + 1];
     int32_t lending[UINT8_MAX], borrowing[UINT8_MAX];
 };
 
 struct answer {
-    uint8_t refusal, words[64], word;
+    uint8_t refusal, word; /* of find, whether an allocation is found */
+    union {
+        uint8_t words[64];
+        uint32_t shares[16]; /* of find */
+    };
     uint64_t shorts;
     int64_t account, bound;
 };
@@ -50,20 +55,34 @@ static void cash_by_c(const struct request *given, struct answer *a)
                         &a->account, &a->bound, &a->word);
 }
 
-static struct answer ask(call *one, const struct request *given)
+static void find_by_library(const struct request *given, struct answer *a)
 {
-    struct answer a;
-    memset(&a, 0xa5, sizeof a);
-    one(given, &a);
-    return a;
+    a->refusal = planner_find(given->file, given->length, given->parts, &a->word, a->shares);
 }
 
-static double turn(call *one, const struct request *given, long rounds)
+static void find_by_c(const struct request *given, struct answer *a)
+{
+    a->refusal = c_find(given->file, given->length, given->parts, &a->word, a->shares);
+}
+
+static const struct {
+    const char *name;
+    call *library, *c;
+} CALLS[] = {
+    {"verdict", verdict_by_library, verdict_by_c},
+    {"cash", cash_by_library, cash_by_c},
+    {"find", find_by_library, find_by_c},
+};
+
+/* The nanoseconds per call of so many, and the last one's answer. */
+static double turn(call *one, const struct request *given, long rounds, struct answer *last)
 {
     struct timespec began, ended;
     clock_gettime(CLOCK_MONOTONIC, &began);
-    for (long k = 0; k < rounds; k++)
-        ask(one, given);
+    for (long k = 0; k < rounds; k++) {
+        memset(last, 0xa5, sizeof *last);
+        one(given, last);
+    }
     clock_gettime(CLOCK_MONOTONIC, &ended);
     return ((double)(ended.tv_sec - began.tv_sec) * 1e9 + (double)(ended.tv_nsec - began.tv_nsec)) / (double)rounds;
 }
@@ -77,17 +96,26 @@ static bool same(const struct answer *a, const struct answer *b)
 /* Asks both and, where they agree, prints their line; answers whether they do. */
 static bool beside(call *library, call *c, const struct request *given, long rounds)
 {
-    struct answer ours = ask(library, given), theirs = ask(c, given);
+    struct answer ours, theirs;
+    double least[2] = {turn(library, given, 1, &ours), turn(c, given, 1, &theirs)};
     if (!same(&ours, &theirs))
         return false;
-    double least[2] = {0, 0};
-    for (int k = 0; k < 5 && rounds > 0; k++) {
-        double a = turn(library, given, rounds), b = turn(c, given, rounds);
+    for (int k = 0; k < 5 && rounds > 1; k++) {
+        double a = turn(library, given, rounds, &ours), b = turn(c, given, rounds, &theirs);
         least[0] = k == 0 || a < least[0] ? a : least[0];
         least[1] = k == 0 || b < least[1] ? b : least[1];
     }
-    printf("%u %u %.0f %.0f\n", ours.refusal, ours.word, least[0], least[1]);
+    printf("%u %u %.0f %.0f\n", ours.refusal, ours.word, rounds > 0 ? least[0] : 0, rounds > 0 ? least[1] : 0);
     return true;
+}
+
+/* The place of a call's name among CALLS, or what is past its last. */
+static size_t place_of(const char *name)
+{
+    size_t k = 0;
+    while (k < sizeof CALLS / sizeof *CALLS && strcmp(name, CALLS[k].name))
+        k++;
+    return k;
 }
 
 /* As many rates in each list as a plan asks for with the N of the file's head: lending rates that rise by the year, and borrowing rates
@@ -104,18 +132,24 @@ static void make_lists(struct request *given)
 int main(int count, char **words)
 {
     static struct request given;
-    FILE *in = count == 4 ? fopen(words[1], "rb") : NULL;
+    bool good = count > 4 && count % 2 == 1;
+    for (int k = 3; k < count; k += 2)
+        good = good && place_of(words[k]) < sizeof CALLS / sizeof *CALLS;
+    FILE *in = good ? fopen(words[1], "rb") : NULL;
     if (!in) {
-        fprintf(stderr, "usage: measure FILE VERDICTS ACCOUNTS\n");
+        fprintf(stderr, "usage: measure FILE PARTS CALL ROUNDS [CALL ROUNDS]...\n");
         return 2;
     }
     given.length = fread(given.file, 1, sizeof given.file, in);
+    given.parts = strtoul(words[2], NULL, 10);
     fclose(in);
     make_lists(&given);
-    if (!beside(verdict_by_library, verdict_by_c, &given, atol(words[2]))
-        || !beside(cash_by_library, cash_by_c, &given, atol(words[3]))) {
-        fprintf(stderr, "%s: the library and C differ\n", words[1]);
-        return 1;
+    for (int k = 3; k < count; k += 2) {
+        size_t at = place_of(words[k]);
+        if (!beside(CALLS[at].library, CALLS[at].c, &given, atol(words[k + 1]))) {
+            fprintf(stderr, "%s: the library and C differ in %s\n", words[1], words[k]);
+            return 1;
+        }
     }
     return 0;
 }

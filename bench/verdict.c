@@ -1,6 +1,6 @@
-/* The yearly reckoning of document 01, with the opening and slopes, and the cash account of document 02, in plain C: the same checks in
- * the same order, the same window of q terms, every flow of every pattern reckoned once. Nothing is copied that C need not copy; the
- * plan is passed by pointer. */
+/* The yearly reckoning of document 01, with the opening and slopes, and the cash account and the search for an allocation of document 02,
+ * in plain C: the same checks in the same order, the same window of q terms, every flow of every pattern reckoned once, the same
+ * allocations tried in the same order. Nothing is copied that C need not copy; the plan is passed by pointer. */
 #include "verdict.h"
 
 #include <stdbool.h>
@@ -267,6 +267,17 @@ static uint8_t reckon(const struct plan *plan, const int64_t *flow, const int64_
     return 0;
 }
 
+/* r and w of q terms. */
+static void terms(const uint32_t *rollover, size_t q, int64_t *r, int64_t *w)
+{
+    int64_t left = MILLION;
+    for (size_t d = 0; d < q; d++) {
+        r[d] = rollover[d];
+        w[d] = left;
+        left -= r[d];
+    }
+}
+
 static uint8_t refused(uint8_t number, uint8_t *words, uint64_t *shorts, uint8_t *word)
 {
     memset(words, 0, 64);
@@ -287,12 +298,8 @@ uint8_t c_verdict(const uint8_t *file, size_t length, uint8_t words[static 64], 
     if (no)
         return refused(no, words, shorts, word);
     size_t N = plan.years, q = plan.terms, m = plan.patterns;
-    int64_t r[30] = {0}, w[30] = {0}, flow[30], net[30], left = MILLION;
-    for (size_t d = 0; d < q; d++) {
-        r[d] = plan.rollover[d];
-        w[d] = left;
-        left -= r[d];
-    }
+    int64_t r[30] = {0}, w[30] = {0}, flow[30], net[30];
+    terms(plan.rollover, q, r, w);
     for (size_t k = 0; k < N; k++) {
         net[k] = net_at(&plan, k);
         flow[k] = flow_at(&plan, k);
@@ -375,5 +382,119 @@ uint8_t c_cash(const uint8_t *file, size_t length, const int32_t *lending, size_
         return no;
     *bound = account_bound(lending, borrowing, n);
     *word = word_of(*account, *bound);
+    return 0;
+}
+
+/* ---- the search for an allocation */
+
+#define CHOICES 4 /* the most instruments of a plan that is searched */
+
+/* K, 0 past the plan's instruments, and 10^6 (Q + 2 B). An allocation p is ruled out where K_1 p_1 + ... + K_n p_n + `constant` is
+ * below 0. */
+struct line {
+    int64_t coefficients[CHOICES], constant;
+};
+
+struct search {
+    struct plan plan; /* its allocation is the one that is tried */
+    int64_t r[30], w[30];
+    struct line lines[64];
+};
+
+/* Check 15. */
+static uint8_t check_parts(const struct plan *plan, size_t parts)
+{
+    const uint64_t known = 1 << 1 | 1 << 2 | 1 << 4 | 1 << 5 | 1 << 8 | 1 << 10 | 1 << 16 | 1 << 20 | 1 << 25 | UINT64_C(1) << 40;
+    return parts >= 64 || !(known >> parts & 1) || plan->instruments > CHOICES ? 15 : 0;
+}
+
+/* The line of one pattern; check 11, which no allocation passes then. */
+static uint8_t draw(const struct search *s, const int64_t *net, const int64_t *i, struct line *line)
+{
+    size_t N = s->plan.years, n = s->plan.instruments, q = s->plan.terms;
+    int64_t constant;
+    for (size_t j = 0; j < CHOICES; j++)
+        line->coefficients[j] = 0;
+    for (size_t j = 0; j < n; j++)
+        if (fund(s->plan.payments[j], s->r, s->w, i, N, q, &line->coefficients[j]))
+            return 11;
+    if (fund(net, s->r, s->w, i, N, q, &constant))
+        return 11;
+    line->constant = MILLION * (constant + 2 * bound(i, N));
+    return 0;
+}
+
+/* The lines of all patterns. */
+static uint8_t draw_lines(struct search *s)
+{
+    int64_t net[30];
+    for (size_t k = 0; k < s->plan.years; k++)
+        net[k] = net_at(&s->plan, k);
+    for (size_t t = 0; t < s->plan.patterns; t++)
+        if (draw(s, net, s->plan.rates[t], &s->lines[t]))
+            return 11;
+    return 0;
+}
+
+static bool ruled_out(const struct search *s)
+{
+    const uint32_t *p = s->plan.allocation;
+    for (const struct line *line = s->lines, *end = line + s->plan.patterns; line < end; line++) {
+        int64_t z = line->constant;
+        for (size_t j = 0; j < CHOICES; j++)
+            z += line->coefficients[j] * (int64_t)p[j];
+        if (z < 0)
+            return true;
+    }
+    return false;
+}
+
+static bool is_solvent(const struct search *s)
+{
+    const struct plan *plan = &s->plan;
+    int64_t flow[30], z;
+    for (size_t k = 0; k < plan->years; k++)
+        flow[k] = flow_at(plan, k);
+    for (size_t t = 0; t < plan->patterns; t++)
+        if (fund(flow, s->r, s->w, plan->rates[t], plan->years, plan->terms, &z) || z < 0)
+            return false;
+    return true;
+}
+
+/* Gives instrument j and those after it `left` in all, in units of `unit`, the most to the first; whether one way is solvent. */
+static bool place(struct search *s, size_t j, uint32_t left, uint32_t unit)
+{
+    uint32_t *p = &s->plan.allocation[j];
+    *p = left;
+    if (j + 1 == s->plan.instruments)
+        return !ruled_out(s) && is_solvent(s);
+    while (!place(s, j + 1, left - *p, unit)) {
+        if (*p == 0)
+            return false;
+        *p -= unit;
+    }
+    return true;
+}
+
+uint8_t c_find(const uint8_t *file, size_t length, size_t parts, uint8_t *found, uint32_t shares[static 16])
+{
+    struct search s;
+    *found = 0;
+    memset(shares, 0, 16 * sizeof *shares);
+    uint8_t no = read_plan(file, length, &s.plan);
+    if (!no)
+        no = check_plan(&s.plan);
+    if (!no)
+        no = check_allocation(&s.plan);
+    if (!no)
+        no = check_parts(&s.plan, parts);
+    if (no)
+        return no;
+    terms(s.plan.rollover, s.plan.terms, s.r, s.w);
+    for (size_t j = s.plan.instruments; j < CHOICES; j++)
+        s.plan.allocation[j] = 0;
+    *found = !draw_lines(&s) && place(&s, 0, MILLION, (uint32_t)(MILLION / parts));
+    if (*found)
+        memcpy(shares, s.plan.allocation, s.plan.instruments * sizeof *shares);
     return 0;
 }
