@@ -1,15 +1,20 @@
-/* planner_list and planner_cash on any bytes. What must hold, or the program aborts: the listing is at most PLANNER_LISTING_BYTES
- * long, nothing is changed after it, around the buffer or in the file, nothing is read or written outside what is lent, the text has
- * the form of a listing, and the same file gives the same text again. The cash account is refused as the listing and the two lists of
- * rates say, and then its numbers are 0; else the account and the bound are in their ranges, and the word is theirs; the file, the
- * lists and what is around the three numbers are unchanged, and the same file and lists give the same answer again.
+/* planner_list, planner_cash and planner_find on any bytes. What must hold, or the program aborts: the listing is at most
+ * PLANNER_LISTING_BYTES long, nothing is changed after it, around the buffer or in the file, nothing is read or written outside what is
+ * lent, the text has the form of a listing, and the same file gives the same text again. The cash account is refused as the listing and
+ * the two lists of rates say, and then its numbers are 0; else the account and the bound are in their ranges, and the word is theirs; the
+ * file, the lists and what is around the three numbers are unchanged, and the same file and lists give the same answer again. The search
+ * is refused as the listing, but for 11, and the number of parts and n say, and then its numbers are 0, as they are where nothing is
+ * found; what is found lies on the grid, and the file with it in the place of the allocation is listed as solvent; with the allocations
+ * before it, or with all where nothing is found, it is not: of these the plan's own is tried, if it is one, the one right before, and
+ * about eight more. The file and what is around the answer are unchanged, and the same file and number give the same answer again.
  *
  * An input is a plan file, and the two lists of rates are made from it. Lending rates are those of its first pattern that lists them,
  * borrowing rates those of its last if it has two such, raised to the lending rate where they are below it. What is still missing is
  * drawn, and so is what is wrong: one file in eight has lists of other lengths (0, N - 1, N, N + 255, 30, 31, or any up to 1,024), one
  * in eight a borrowing rate below the lending rate, one in eight a rate outside the range, each whatever the others are; two in three
  * have nothing wrong. The generator begins with a hash of the records other than the payments, the outflows and the opening: a change
- * of an amount leaves the lists as they are.
+ * of an amount leaves the lists as they are. The number of parts is drawn next: in one file in eight one that is refused, else one that
+ * leaves the search some hundreds of allocations at most, and in one of sixteen of these some thousands; fewer where the plan is large.
  *
  * Built for libFuzzer by fuzz/run, and with REPLAY as a program that takes files, or standard input, by fuzz/replay.
  *
@@ -26,7 +31,7 @@
 
 #include "planner.h"
 
-enum { MOST_FILE = 1 << 17, GUARD = 4096, FILL = 0xa5, MOST_RATES = GUARD / 4, TOP_RATE = 200000 };
+enum { MOST_FILE = 1 << 17, GUARD = 4096, FILL = 0xa5, MOST_RATES = GUARD / 4, TOP_RATE = 200000, MILLION = 1000000 };
 
 static void must(int holds, const char *what)
 {
@@ -111,13 +116,13 @@ static uint32_t draw(size_t count)
     return (uint32_t)((drawn >> 33) % count);
 }
 
-/* The generator begins with a hash of every record's head, and of its body where it has no amounts. */
-static void begin_drawing(const uint8_t *data, size_t size)
+/* The generator begins with a hash of every record's head, and of its body where it has no amounts or these count too. */
+static void begin_drawing(const uint8_t *data, size_t size, int amounts_count)
 {
     size_t length;
     drawn = 14695981039346656037u;
     for (size_t at = 0; record(data, size, at, &length); at += 4 + length)
-        for (size_t k = 0; k < (has_amounts(data[at + 2]) ? 4 : 4 + length); k++)
+        for (size_t k = 0; k < (has_amounts(data[at + 2]) && !amounts_count ? 4 : 4 + length); k++)
             drawn = (drawn ^ data[at + k]) * 1099511628211;
 }
 
@@ -156,7 +161,7 @@ static void make_lists(const uint8_t *data, size_t size)
 {
     static const int32_t outside[] = {-1, TOP_RATE + 1, INT32_MIN, INT32_MAX};
     right_count = size > 4 && data[4] >= 1 && data[4] <= PLANNER_YEARS ? data[4] - 1 : 0;
-    begin_drawing(data, size);
+    begin_drawing(data, size, 0);
     lending.count = borrowing.count = right_count;
     if (draw(8) == 0) {
         lending.count = some_count();
@@ -184,6 +189,41 @@ static int wrong_in_lists(void)
         below |= borrowing.at[k] < lending.at[k];
     }
     return outside ? 8 : below ? 14 : 0;
+}
+
+/* ---- the number of parts */
+
+enum { NUMBERS = 10, MOST_SEARCHED = 4 };
+static const uint32_t numbers[NUMBERS] = {1, 2, 4, 5, 8, 10, 16, 20, 25, 40};
+static size_t parts;
+
+/* Where the number stands among those that are taken; NUMBERS if it does not. */
+static size_t number_of(size_t count)
+{
+    size_t k = 0;
+    while (k < NUMBERS && numbers[k] != count)
+        k++;
+    return k;
+}
+
+/* How many allocations to n instruments there are in so many parts. */
+static size_t allocations(size_t n, size_t count)
+{
+    size_t all = 1;
+    for (size_t k = 1; k < n; k++)
+        all = all * (count + k) / k;
+    return all;
+}
+
+/* The number of parts that goes with a file; it is drawn after the lists. */
+static void make_parts(const uint8_t *data, size_t size)
+{
+    static const size_t others[] = {0, 3, 7, 50, ((size_t)1 << 32) + 4, SIZE_MAX};
+    size_t n = size > 5 && data[5] >= 1 && data[5] <= MOST_SEARCHED ? data[5] : 1, most = draw(16) ? 400 : 13000, few = 1;
+    size_t work = size > 7 ? (size_t)data[4] * data[4] * data[7] : 0; /* of one allocation: N years, each with those before it, m times */
+    while (few < NUMBERS && allocations(n, numbers[few]) <= most && allocations(n, numbers[few]) * work <= 1 << 22)
+        few++;
+    parts = draw(8) ? numbers[draw(few)] : others[draw(sizeof others / sizeof *others)];
 }
 
 /* ---- one call */
@@ -237,47 +277,65 @@ static int list_refusal(const uint8_t *data, size_t size)
     return refusal;
 }
 
-/* What is lent to planner_cash, first what is read and then what is filled; each piece has a room of its own, and lies at one of these
- * places in it, or in none. */
-enum { FILE_BYTES, LENDING, BORROWING, ACCOUNT, BOUND, WORD, PIECES };
+/* What is lent to planner_cash and planner_find, first what is read and then what is filled; each piece has a room of its own, and lies
+ * in a block of just the size, or flush with the inaccessible page after its room or before it. */
+enum { FILE_BYTES, LENDING, BORROWING, ACCOUNT, BOUND, WORD, FOUND, SHARES, PIECES };
 enum place { NO_ROOM, LATE, EARLY };
-static uint8_t *rooms[PIECES];
+static struct {
+    uint8_t *room, *at;
+    const void *from;
+    size_t size;
+} pieces[PIECES];
+
+/* The piece, with what `from` has in it if it is one that is read. */
+static void *lend(int k, const void *from, size_t size, enum place place)
+{
+    size_t room = k == FILE_BYTES ? MOST_FILE : GUARD;
+    uint8_t *at = place == NO_ROOM ? malloc(size) : place == LATE ? pieces[k].room + room - size : pieces[k].room;
+    must(at != NULL, "no memory");
+    if (k >= ACCOUNT) {
+        memset(pieces[k].room, FILL, room);
+        memset(at, FILL, size);
+    } else if (size > 0)
+        memcpy(at, from, size);
+    pieces[k].at = at;
+    pieces[k].from = from;
+    pieces[k].size = size;
+    return at;
+}
+
+/* After the call, and after its answer is copied. */
+static void take_back(int k, enum place place)
+{
+    if (k >= ACCOUNT) {
+        memset(pieces[k].at, FILL, pieces[k].size);
+        must(all_filled(pieces[k].room, GUARD), "a byte around an answer is changed");
+    } else
+        must(pieces[k].size == 0 || memcmp(pieces[k].at, pieces[k].from, pieces[k].size) == 0, "the file or a list is changed");
+    if (place == NO_ROOM)
+        free(pieces[k].at);
+}
+
+/* ---- the cash account */
 
 struct answer {
     int64_t refusal, account, bound, word;
 };
 
-/* The cash account, with every piece in a block of just the size, or flush with the inaccessible page after its room or before it. */
 static struct answer cash(const uint8_t *data, size_t size, enum place place)
 {
-    const void *from[] = {data, lending.at, borrowing.at};
-    const size_t sizes[] = {size, 4 * lending.count, 4 * borrowing.count, 8, 8, 1};
-    void *at[PIECES];
-    for (int k = 0; k < PIECES; k++) {
-        size_t room = k == FILE_BYTES ? MOST_FILE : GUARD;
-        at[k] = place == NO_ROOM ? malloc(sizes[k]) : place == LATE ? rooms[k] + room - sizes[k] : rooms[k];
-        must(at[k] != NULL, "no memory");
-        if (k >= ACCOUNT) {
-            memset(rooms[k], FILL, room);
-            memset(at[k], FILL, sizes[k]);
-        } else if (sizes[k] > 0)
-            memcpy(at[k], from[k], sizes[k]);
-    }
+    const uint8_t *file = lend(FILE_BYTES, data, size, place);
+    const int32_t *earned = lend(LENDING, lending.at, 4 * lending.count, place);
+    const int32_t *owed = lend(BORROWING, borrowing.at, 4 * borrowing.count, place);
+    int64_t *account = lend(ACCOUNT, NULL, 8, place), *bound = lend(BOUND, NULL, 8, place);
+    uint8_t *word = lend(WORD, NULL, 1, place);
     struct answer answer;
-    answer.refusal = planner_cash(at[FILE_BYTES], size, at[LENDING], lending.count, at[BORROWING], borrowing.count, at[ACCOUNT],
-                                  at[BOUND], at[WORD]);
-    answer.account = *(int64_t *)at[ACCOUNT];
-    answer.bound = *(int64_t *)at[BOUND];
-    answer.word = *(uint8_t *)at[WORD];
-    for (int k = 0; k < PIECES; k++) {
-        if (k >= ACCOUNT) {
-            memset(at[k], FILL, sizes[k]);
-            must(all_filled(rooms[k], GUARD), "a byte around a number is changed");
-        } else
-            must(sizes[k] == 0 || memcmp(at[k], from[k], sizes[k]) == 0, "the file or a list is changed");
-        if (place == NO_ROOM)
-            free(at[k]);
-    }
+    answer.refusal = planner_cash(file, size, earned, lending.count, owed, borrowing.count, account, bound, word);
+    answer.account = *account;
+    answer.bound = *bound;
+    answer.word = *word;
+    for (int k = FILE_BYTES; k <= WORD; k++)
+        take_back(k, place);
     return answer;
 }
 
@@ -309,56 +367,155 @@ static void check(struct answer said, int listed)
          "the word is not that of the account and the bound");
 }
 
-/* The refusal of the listing, and the answer for the cash account. */
-static int one_input(const uint8_t *data, size_t size, struct answer *account)
+/* The answer for the cash account, which is made three times. */
+static struct answer account_of(const uint8_t *data, size_t size, int listed)
 {
+    struct answer first = cash(data, size, NO_ROOM), second = cash(data, size, LATE), third = cash(data, size, EARLY);
+    check(first, listed);
+    must(memcmp(&second, &first, sizeof first) == 0, "the second answer for the cash account is another");
+    must(memcmp(&third, &first, sizeof first) == 0, "the third answer for the cash account is another");
+    return first;
+}
+
+/* ---- the search for an allocation */
+
+struct finding {
+    uint32_t refusal, found, shares[PLANNER_INSTRUMENTS];
+};
+
+static struct finding find(const uint8_t *data, size_t size, enum place place)
+{
+    const uint8_t *file = lend(FILE_BYTES, data, size, place);
+    uint8_t *found = lend(FOUND, NULL, 1, place);
+    uint32_t *shares = lend(SHARES, NULL, 4 * PLANNER_INSTRUMENTS, place);
+    struct finding finding;
+    finding.refusal = planner_find(file, size, parts, found, shares);
+    finding.found = *found;
+    memcpy(finding.shares, shares, sizeof finding.shares);
+    take_back(FILE_BYTES, place);
+    take_back(FOUND, place);
+    take_back(SHARES, place);
+    return finding;
+}
+
+/* Whether a plan's file, with these shares in the place of its allocation, is listed as solvent. */
+static int solvent_with(const uint8_t *data, size_t size, const uint32_t *shares)
+{
+    uint8_t *file = file_room + MOST_FILE - size, *last;
+    size_t n = data[5];
+    memcpy(file, data, size);
+    memcpy(file + size - 4 * n, shares, 4 * n);
+    size_t length = planner_list(file, size, out_room);
+    last = memrchr(out_room, '\n', length - 1);
+    return strncmp((char *)(last ? last + 1 : out_room), "solvent ", 8) == 0;
+}
+
+/* From one allocation to the next, the larger share of instrument 1 first; 0 after the last. */
+static int next_allocation(uint32_t *shares, size_t n, uint32_t unit)
+{
+    uint32_t moved = shares[n - 1] + unit;
+    size_t k = n - 1;
+    shares[n - 1] = 0;
+    while (k > 0 && shares[k - 1] == 0)
+        k--;
+    if (k == 0)
+        return 0;
+    shares[k - 1] -= unit;
+    shares[k] = moved;
+    return 1;
+}
+
+/* The place of what is found, counted from 1, which must be the first that is solvent; 0 if nothing is found, and then none must be. */
+static size_t place_of(const struct finding *said, const uint8_t *data, size_t size)
+{
+    uint32_t at[PLANNER_INSTRUMENTS] = {MILLION}, before[PLANNER_INSTRUMENTS], unit = MILLION / (uint32_t)parts;
+    size_t n = data[5], all = allocations(n, parts), place = 1;
+    int more = 1;
+    begin_drawing(data, size, 1);
+    for (; more && memcmp(at, said->shares, sizeof at) != 0; place++) {
+        if (draw(all) < 8 || memcmp(at, data + size - 4 * n, 4 * n) == 0)
+            must(!solvent_with(data, size, at), "an allocation that was passed over is solvent");
+        memcpy(before, at, sizeof at);
+        more = next_allocation(at, n, unit);
+    }
+    must(more == (int)said->found, "what is found is not on the grid");
+    must(place == 1 || !solvent_with(data, size, before), "the last allocation that was passed over is solvent");
+    must(!more || solvent_with(data, size, said->shares), "what is found is not solvent");
+    return more ? place : 0;
+}
+
+/* What the search must answer, by the refusal of the listing; the place of what is found, or 0. */
+static size_t check_finding(const struct finding *said, int listed, const uint8_t *data, size_t size)
+{
+    static const uint32_t zeros[PLANNER_INSTRUMENTS];
+    uint32_t refusal = listed != 0 && listed != 11 ? listed : number_of(parts) == NUMBERS || data[5] > MOST_SEARCHED ? 15 : 0;
+    must(said->refusal == refusal, "the search is refused in another way");
+    must(said->found <= (refusal == 0), "it is found on a refusal, or neither found nor not");
+    must(said->found || memcmp(said->shares, zeros, sizeof zeros) == 0, "a share of a refusal or of none is not 0");
+    return refusal == 0 ? place_of(said, data, size) : 0;
+}
+
+/* ---- one input */
+
+struct result {
+    int listed; /* the refusal of the listing */
+    struct answer account;
+    struct finding finding;
+    size_t place; /* of what is found */
+};
+
+static struct result one_input(const uint8_t *data, size_t size)
+{
+    struct result result;
     if (!file_room) {
-        file_room = rooms[FILE_BYTES] = fenced(MOST_FILE);
+        file_room = pieces[FILE_BYTES].room = fenced(MOST_FILE);
         out_room = fenced(PLANNER_LISTING_BYTES + GUARD);
         for (int k = LENDING; k < PIECES; k++)
-            rooms[k] = fenced(GUARD);
+            pieces[k].room = fenced(GUARD);
     }
-    int refusal = list_refusal(data, size);
+    result.listed = list_refusal(data, size);
     make_lists(data, size);
-    *account = cash(data, size, NO_ROOM);
-    check(*account, refusal);
-    struct answer second = cash(data, size, LATE), third = cash(data, size, EARLY);
-    must(memcmp(&second, account, sizeof second) == 0, "the second answer for the cash account is another");
-    must(memcmp(&third, account, sizeof third) == 0, "the third answer for the cash account is another");
-    return refusal;
+    result.account = account_of(data, size, result.listed);
+    make_parts(data, size);
+    result.finding = find(data, size, NO_ROOM);
+    struct finding second = find(data, size, LATE), third = find(data, size, EARLY);
+    must(memcmp(&second, &result.finding, sizeof second) == 0, "the second answer of the search is another");
+    must(memcmp(&third, &result.finding, sizeof third) == 0, "the third answer of the search is another");
+    result.place = check_finding(&result.finding, result.listed, data, size);
+    return result;
 }
 
 #ifdef REPLAY
 
-/* Whether a cash account was answered. */
-static int replay(FILE *from, const char *name)
+static int accounts, found;
+
+static void replay(FILE *from, const char *name)
 {
     static uint8_t data[MOST_FILE];
-    struct answer account;
     size_t size = fread(data, 1, sizeof data, from);
     if (ferror(from) || !feof(from)) {
         fprintf(stderr, "list: %s cannot be read whole\n", name);
         exit(2);
     }
     fclose(from);
-    one_input(data, size, &account);
-    return account.refusal == 0;
+    struct result result = one_input(data, size);
+    accounts += result.account.refusal == 0;
+    found += result.place > 0;
 }
 
 int main(int argc, char **argv)
 {
-    int accounts = 0;
     if (argc == 1)
-        accounts += replay(stdin, "standard input");
+        replay(stdin, "standard input");
     for (int k = 1; k < argc; k++) {
         FILE *from = fopen(argv[k], "rb");
         if (!from) {
             perror(argv[k]);
             return 2;
         }
-        accounts += replay(from, argv[k]);
+        replay(from, argv[k]);
     }
-    printf("%d files, %d cash accounts\n", argc == 1 ? 1 : argc - 1, accounts);
+    printf("%d files, %d cash accounts, %d allocations found\n", argc == 1 ? 1 : argc - 1, accounts, found);
     return 0;
 }
 
@@ -369,17 +526,21 @@ int main(int argc, char **argv)
 enum { BLOCKS = 1 << 14, BREAKPOINT = 0xcc };
 
 /* What libFuzzer looks at after each input: a counter for each block, for which was reached after which, and for what the plan, its
- * listing and its cash account are like. */
+ * listing, its cash account and the search are like. */
 #define COUNTERS __attribute__((section("__libfuzzer_extra_counters"))) static volatile uint8_t
 COUNTERS reached[BLOCKS];
 COUNTERS after[BLOCKS];
-COUNTERS like[512];
+COUNTERS like[768];
 
 static struct {
     uint8_t *at, first; /* where it is, and its own first byte */
     int ever;           /* whether any input has reached it */
 } blocks[BLOCKS];
 static size_t block_count, hits[BLOCKS], hit_count, plan_count, account_counts[4];
+
+/* How a search can end. */
+enum { NOTHING, FIRST, BETWEEN, LAST, ENDS };
+static size_t end_counts[ENDS];
 
 static void on_breakpoint(int number, siginfo_t *info, void *context)
 {
@@ -411,6 +572,8 @@ static void say_coverage(void)
     fprintf(stderr, "stat::plans_listed:             %zu\n", plan_count);
     fprintf(stderr, "stat::accounts:                 %zu solvent, %zu short, %zu close\n", account_counts[PLANNER_SOLVENT],
             account_counts[PLANNER_SHORT], account_counts[PLANNER_CLOSE]);
+    fprintf(stderr, "stat::searches:                 %zu found at the first place, %zu between, %zu at the last, %zu nothing\n",
+            end_counts[FIRST], end_counts[BETWEEN], end_counts[LAST], end_counts[NOTHING]);
     fprintf(stderr, "stat::library_blocks_reached:   %zu of %zu\n", ever, block_count);
 }
 
@@ -444,15 +607,23 @@ int LLVMFuzzerTestOneInput(const uint8_t *data, size_t size)
         return 0;
     while (hit_count > 0)
         *blocks[hits[--hit_count]].at = BREAKPOINT;
-    struct answer account;
-    int refusal = one_input(data, size, &account);
+    struct result result = one_input(data, size);
+    struct answer account = result.account;
+    int refusal = result.listed;
     like[refusal] = 1;
     like[16 + account.refusal] = 1;
+    like[32 + result.finding.refusal] = 1;
     like[448 + 4 * refusal + wrong_in_lists() / 4] = 1; /* what is wrong in the file and in the lists */
     plan_count += refusal == 0;
     account_counts[account.word]++;
     if (account.refusal == 0)
         like[320 + 32 * account.word + data[4]] = 1; /* its word and N */
+    if (result.finding.refusal == 0) {
+        size_t place = result.place;
+        int end = place == 0 ? NOTHING : place == 1 ? FIRST : place < allocations(data[5], parts) ? BETWEEN : LAST;
+        end_counts[end]++;
+        like[512 + ENDS * (NUMBERS * data[5] + number_of(parts)) + end] = 1; /* its end, n and D */
+    }
     if (refusal == 0)
         for (size_t k = 0; k < 4; k++)
             like[64 + 64 * k + data[4 + k]] = 1; /* N, n, q, m */
