@@ -132,7 +132,7 @@ def names_exit(clause, name):
 # ---- must-fail edits
 
 Step = collections.namedtuple("Step", "wrong file old new")
-UNPROVED = r"`(?:returns|loop\d*-holds|loop\d*-again)(?:-\d+)?`"
+UNPROVED = r"(?:returns|loop\d*-holds|loop\d*-again)(?:-\d+)?`"
 NOTED = "it is not proved that what the function ensures holds when it returns"
 
 
@@ -168,9 +168,11 @@ def changed(edit, file, text):
 
 def unproved(log, file, function):
     """The lines of a log at which a function's own result, or the start or the turn of one of its loops, is not proved: in its proof,
-    or in a note where it has no proof file."""
-    proof = re.compile(rf"\S*/proofs/\+?{function.name}/Proof\.antt:\d+:\d+: error: {UNPROVED}")
-    note = re.compile(rf"note: \S*/{re.escape(file)}:(\d+):\d+: {NOTED} \({UNPROVED}\)")
+    where a function that calls itself has its name before each, or in a note where it has no proof file."""
+    named = function.name.replace("_", "-")
+    proof = re.compile(rf"\S*/proofs/(?:{function.name}/Proof\.antt:\d+:\d+: error: `"
+                       rf"|\+{function.name}/Proof\.antt:\d+:\d+: error: `{named}-){UNPROVED}")
+    note = re.compile(rf"note: \S*/{re.escape(file)}:(\d+):\d+: {NOTED} \(`{UNPROVED}\)")
     for line in log.splitlines():
         noted = note.match(line)
         if proof.match(line) or noted and function.first <= int(noted.group(1)) <= function.last:
