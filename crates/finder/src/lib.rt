@@ -11,7 +11,7 @@ ghost use lib.IntN.{pos};
 ghost use Rattle.whole.specs.Range.{million};
 ghost use Rattle.whole.specs.Sum.{sumℕ};
 ghost use Rattle.whole.specs.Table.{table};
-ghost use Rattle.whole.specs.Test.{all};
+ghost use Rattle.whole.specs.Test.{pick, all};
 ghost use Rattle.reckoning.specs.Arrays.{ratesOf, Rates};
 ghost use Rattle.plan.specs.Held.{held};
 ghost use Rattle.plan.specs.Numbers.{numbers};
@@ -183,13 +183,22 @@ fn look(
 
 // ---- the search
 
-// The shares with another one at a place.
+// One of two shares: the first where the test holds.
+fn one_of(first: bool, a: u32, b: u32) -> u32
+    ensures { λ s. ⌜ s ≡ pick first a b ⌝ }
+{
+    if first { a } else { b }
+}
+
+// The shares with another one at a place. (Each is written anew: what is set in place and copied at once has to wait, docs/DECISIONS.md.)
 fn with_share(shares: [u32; 4], at: usize, share: u32) -> [u32; 4]
     requires { ⌜ at < 4 ⌝ }
     ensures { λ s. ⌜ s ≡ set shares at share ⌝ }
 {
-    let mut next = shares;
-    next[at] = share;
+    let mut next = [0u32; 4];
+    for j in 0..4 {
+        next[j] = one_of(j == at, share, shares[j]);
+    }
     next
 }
 
