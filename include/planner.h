@@ -9,8 +9,11 @@
  * A plan file goes in as bytes (any bytes: what is no plan file is refused), and the answer comes back in lent buffers. Each call
  * answers a refusal: PLANNER_ACCEPTED, or the number of the first check that fails. On a refusal every number of the answer is 0;
  * entries past the plan's own years, instruments, terms and patterns are always 0, and so are those of the opening (what money already
- * invested pays) where the plan holds none, the rates of a pattern that is a slope, and the start, step and T of one that is not. Amounts
- * are whole numbers in the unit of the file, shares and rates are millionths. */
+ * invested pays) and of the cost (what is left of each instrument at the horizon, at cost) where the plan holds none, the rates of a pattern
+ * that is a slope, and the start, step and T of one that is not. Amounts are whole numbers in the unit of the file, shares and rates are
+ * millionths.
+ *
+ * A fund, reckoned or exact, has what is left at the horizon inside, and so has each K_j; Q and the cash account have not. */
 #ifndef PLANNER_H
 #define PLANNER_H
 
@@ -52,12 +55,12 @@ enum planner_refusal {
     PLANNER_HEAD = 3,            /* the head is missing or not four bytes, or a number in it is outside its range */
     PLANNER_KINDS = 4,           /* the sequence of kinds is not that of a plan */
     PLANNER_LENGTH = 5,          /* a record's length is not what its kind and the head require, or a list has not N - 1 rates */
-    PLANNER_AMOUNT = 6,          /* a payment, an outflow or an amount of the opening is outside its range */
+    PLANNER_AMOUNT = 6,          /* a payment, an outflow or an amount of the opening or of the cost is outside its range */
     PLANNER_ROLLOVER = 7,        /* the rollover shares do not sum to 1,000,000 */
     PLANNER_RATE = 8,            /* a rate that is listed, that a slope means or of a call's own list is below 0 or above 200,000 */
     PLANNER_ALLOCATION = 9,      /* the allocation does not sum to 1,000,000 */
     PLANNER_PATTERN = 10,        /* the pattern number is outside 1 to m */
-    PLANNER_OUT_OF_LIMIT = 11,   /* a cell, a fund or a cash account is outside +-1,000,000,000,000 */
+    PLANNER_OUT_OF_LIMIT = 11,   /* a cell, a fund with its cost inside or a cash account is outside +-1,000,000,000,000 */
     PLANNER_BUFFER_TOO_SHORT = 12, /* the buffer is shorter than the file that goes into it */
     PLANNER_SLOPE = 13,          /* the T of a slope is outside 1 to 30 */
     PLANNER_BORROWING = 14,      /* a borrowing rate is below the lending rate of its year */
@@ -77,18 +80,22 @@ enum planner_word {
  * does not know is then one that the plan does not hold.
  *
  * counts: N, n, q and m, then `opened`: 0 where the plan holds no opening, any other number where it does. Then `sloped`, for each
- * pattern: 0 where it lists its rates, any other number where it is a slope; then `until`, for each pattern the T of its slope. Of
- * `opened` and `sloped` planner_read answers 0 or 1. */
+ * pattern: 0 where it lists its rates, any other number where it is a slope; then `until`, for each pattern the T of its slope. Then
+ * `costed`: 0 where the plan holds no cost, any other number where it does. Of `opened`, `sloped` and `costed` planner_read answers 0 or
+ * 1. */
 #define PLANNER_AT_SLOPED 5
 #define PLANNER_AT_UNTIL 69
-#define PLANNER_COUNTS 133
-/* amounts: the payments, a row of PLANNER_YEARS for each instrument, then the outflows, then the opening. What instrument j + 1 pays in
- * year k + 1 per 1,000,000,000 put in stands at PLANNER_AT_PAYMENTS + j * PLANNER_YEARS + k. The opening is what money already invested
- * pays in each year; what stands at its places while `opened` is 0 plays no part. */
+#define PLANNER_AT_COSTED 133
+#define PLANNER_COUNTS 134
+/* amounts: the payments, a row of PLANNER_YEARS for each instrument, then the outflows, then the opening, then the cost. What instrument
+ * j + 1 pays in year k + 1 per 1,000,000,000 put in stands at PLANNER_AT_PAYMENTS + j * PLANNER_YEARS + k. The opening is what money already
+ * invested pays in each year; what stands at its places while `opened` is 0 plays no part. The cost is what is left of each instrument at
+ * the horizon, at cost, per 1,000,000,000 put in; what stands at its places while `costed` is 0 plays no part. */
 #define PLANNER_AT_PAYMENTS 0
 #define PLANNER_AT_OUTFLOWS 480
 #define PLANNER_AT_OPENING 510
-#define PLANNER_AMOUNTS 540
+#define PLANNER_AT_COST 540
+#define PLANNER_AMOUNTS 556
 /* shares: the rollover, then the allocation. */
 #define PLANNER_AT_ROLLOVER 0
 #define PLANNER_AT_ALLOCATION 30
@@ -109,6 +116,7 @@ struct planner_plan {
         PLANNER_EXTENSION struct {
             size_t years, instruments, terms, patterns, opened;
             size_t sloped[PLANNER_PATTERNS], until[PLANNER_PATTERNS];
+            size_t costed;
         };
     };
     PLANNER_EXTENSION union {
@@ -117,6 +125,7 @@ struct planner_plan {
             int64_t payments[PLANNER_INSTRUMENTS][PLANNER_YEARS];
             int64_t outflows[PLANNER_YEARS];
             int64_t opening[PLANNER_YEARS];
+            int64_t cost[PLANNER_INSTRUMENTS];
         };
     };
     PLANNER_EXTENSION union {
@@ -153,13 +162,14 @@ uint8_t planner_write(const size_t counts[PLANNER_AT_LEAST(PLANNER_COUNTS)], con
 
 /* The calls on one pattern, counted from 1. Refusals 1 to 11 and 13; the bound's call reckons no cell and has no 11. */
 
-/* The reckoned fund: never above the exact fund, and below it by less than the bound. */
+/* The reckoned fund, with what is left at the horizon inside: never above the exact fund, which has it inside too, and below it by less
+ * than the bound. */
 uint8_t planner_fund(const uint8_t *file, size_t file_length, size_t pattern, int64_t *fund);
 
-/* The bound B. */
+/* The bound B; one more where the plan holds a cost, also where every amount of it is 0. */
 uint8_t planner_bound(const uint8_t *file, size_t file_length, size_t pattern, int64_t *bound);
 
-/* The linear form: K_1 to K_n, Q, and its value at the plan's allocation. */
+/* The linear form: K_1 to K_n, each with the cost of its instrument inside, Q, and its value at the plan's allocation. */
 uint8_t planner_form(const uint8_t *file, size_t file_length, size_t pattern,
                      int64_t coefficients[PLANNER_AT_LEAST(PLANNER_INSTRUMENTS)], int64_t *constant, int64_t *value);
 
@@ -176,8 +186,8 @@ uint8_t planner_verdict(const uint8_t *file, size_t file_length,
 /* The cash account of an operator who does not reinvest: what is left over at the end of a year is lent, what is missing is borrowed. Each
  * list has the rates of years 2 to N, N - 1 of them, none where N is 1; rates of either list are 0 to 200,000, and none of the borrowing
  * list is below the lending rate of its year. Answers the account at the end of year N, never above the exact one and below it by less than
- * the bound; the bound; and the word, which the two make as a fund and B do. The plan's patterns are checked and have no part in it.
- * Refusals 1 to 9, 11, 13 and 14; a list of another length is refused 5, after the file's own 5, and 8 and 14 come before 9. */
+ * the bound; the bound; and the word, which the two make as a fund and B do. The plan's patterns and its cost are checked and have no part
+ * in it. Refusals 1 to 9, 11, 13 and 14; a list of another length is refused 5, after the file's own 5, and 8 and 14 come before 9. */
 uint8_t planner_cash(const uint8_t *file, size_t file_length,
                      const int32_t *lending, size_t lending_length,
                      const int32_t *borrowing, size_t borrowing_length,

@@ -41,10 +41,12 @@ static struct request request;
     (AT(member, array) + sizeof ((struct planner_plan *)0)->member / sizeof ((struct planner_plan *)0)->array[0])
 _Static_assert(AT(patterns, counts) == 3 && AT(opened, counts) == 4 && ENDS(opened, counts) == PLANNER_AT_SLOPED, "counts");
 _Static_assert(AT(sloped, counts) == PLANNER_AT_SLOPED && ENDS(sloped, counts) == PLANNER_AT_UNTIL, "counts");
-_Static_assert(AT(until, counts) == PLANNER_AT_UNTIL && ENDS(until, counts) == PLANNER_COUNTS, "counts");
+_Static_assert(AT(until, counts) == PLANNER_AT_UNTIL && ENDS(until, counts) == PLANNER_AT_COSTED, "counts");
+_Static_assert(AT(costed, counts) == PLANNER_AT_COSTED && ENDS(costed, counts) == PLANNER_COUNTS, "counts");
 _Static_assert(AT(payments, amounts) == PLANNER_AT_PAYMENTS && AT(outflows, amounts) == PLANNER_AT_OUTFLOWS, "amounts");
 _Static_assert(ENDS(payments, amounts) == PLANNER_AT_OUTFLOWS && ENDS(outflows, amounts) == PLANNER_AT_OPENING, "amounts");
-_Static_assert(AT(opening, amounts) == PLANNER_AT_OPENING && ENDS(opening, amounts) == PLANNER_AMOUNTS, "amounts");
+_Static_assert(AT(opening, amounts) == PLANNER_AT_OPENING && ENDS(opening, amounts) == PLANNER_AT_COST, "amounts");
+_Static_assert(AT(cost, amounts) == PLANNER_AT_COST && ENDS(cost, amounts) == PLANNER_AMOUNTS, "amounts");
 _Static_assert(AT(rollover, shares) == PLANNER_AT_ROLLOVER && AT(allocation, shares) == PLANNER_AT_ALLOCATION, "shares");
 _Static_assert(ENDS(rollover, shares) == PLANNER_AT_ALLOCATION && ENDS(allocation, shares) == PLANNER_SHARES, "shares");
 _Static_assert(AT(rates, all_rates) == PLANNER_AT_RATES && ENDS(rates, all_rates) == PLANNER_AT_START, "rates");

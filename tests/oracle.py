@@ -1,6 +1,6 @@
-"""Document 01, with the money already invested, the rising and falling rates, the cash account and the search for an allocation of
-document 02, in unbounded whole numbers: what a plan file is read as, what each call answers, what the program prints. The exact account
-of the cash is in fractions.
+"""Document 01, with the money already invested, the rising and falling rates, the cash account, the search for an allocation and the cost
+left at the horizon of document 02, in unbounded whole numbers: what a plan file is read as, what each call answers, what the program
+prints. The exact account of the cash is in fractions.
 
 Written from the papers alone. It is slow and plain on purpose: every sum is the paper's sum, and nothing is cut short but a search over many
 allocations (`solvents`).
@@ -37,13 +37,14 @@ def meant(pattern, N):
 
 
 class Plan:
-    """N, n, q, m, and a_kj, o_k, b_k, r_j, i_k of pattern t, p_j by the paper's indices, from 1; i_k from 2. b_k is what the money
-    already invested pays: a_k0 of equation 2' in document 004."""
+    """N, n, q, m, and a_kj, o_k, b_k, c_j, r_j, i_k of pattern t, p_j by the paper's indices, from 1; i_k from 2. b_k is what the
+    money already invested pays: a_k0 of equation 2' in document 004. c_j is what is left of instrument j at the horizon, at cost."""
 
-    def __init__(self, payments, outflows, rollover, patterns, allocation, opening=None):
+    def __init__(self, payments, outflows, rollover, patterns, allocation, opening=None, cost=None):
         self.payments = payments      # a list for each instrument
         self.outflows = outflows
         self.opening = opening        # begins with b_1; None where the record is not held
+        self.cost = cost              # begins with c_1; None where the record is not held
         self.rollover = rollover
         self.patterns = patterns      # each a list that begins with i_2, or a slope
         self.allocation = allocation
@@ -62,6 +63,9 @@ class Plan:
     def b(self, k):
         return 0 if self.opening is None else self.opening[k - 1]
 
+    def c(self, j):
+        return 0 if self.cost is None else self.cost[j - 1]
+
     def r(self, j):
         return self.rollover[j - 1] if j <= self.q else 0
 
@@ -74,15 +78,17 @@ class Plan:
 
 
 class Values:
-    """A plan held as values: N, n, q, m and whether it holds an opening and which patterns are slopes, any numbers, and arrays of the
-    largest sizes."""
+    """A plan held as values: N, n, q, m and whether it holds an opening and a cost and which patterns are slopes, any numbers, and arrays
+    of the largest sizes."""
 
-    def __init__(self, head, payments, outflows, rollover, rates, allocation, opened, opening, sloped, slopes):
+    def __init__(self, head, payments, outflows, rollover, rates, allocation, opened, opening, sloped, slopes, costed, cost):
         self.head = head
         self.opened = opened          # 0 where it holds none
         self.payments = payments      # 16 rows of 30
         self.outflows = outflows      # 30
         self.opening = opening        # 30
+        self.costed = costed          # 0 where it holds none
+        self.cost = cost              # 16
         self.rollover = rollover      # 30
         self.rates = rates            # 64 rows of 30
         self.sloped = sloped          # 64, each 0 where the pattern lists its rates
@@ -125,10 +131,10 @@ def numbers_of(data):
     N, n, q, m = found[0][1]
     head(N, n, q, m)
     kinds = [kind for kind, _ in found]
-    opened = 7 in kinds
-    if [5 if kind == 8 else kind for kind in kinds] != [1] + [2] * n + [3] + [7] * opened + [4] + [5] * m + [6]:
+    opened, costed = 7 in kinds, 9 in kinds
+    if [5 if kind == 8 else kind for kind in kinds] != [1] + [2] * n + [3] + [7] * opened + [9] * costed + [4] + [5] * m + [6]:
         raise Refused(4)
-    size = {1: 4, 2: 8 * N, 3: 8 * N, 4: 4 * q, 5: 4 * (N - 1), 6: 4 * n, 7: 8 * N, 8: 9}
+    size = {1: 4, 2: 8 * N, 3: 8 * N, 4: 4 * q, 5: 4 * (N - 1), 6: 4 * n, 7: 8 * N, 8: 9, 9: 8 * n}
     if any(len(body) != size[kind] for kind, body in found):
         raise Refused(5)
     bodies = {kind: [body for other, body in found if other == kind] for kind in size}
@@ -139,6 +145,7 @@ def numbers_of(data):
         [slope(body) if kind == 8 else numbers(body, 4) for kind, body in found if kind in (5, 8)],
         numbers(bodies[6][0], 4),
         numbers(bodies[7][0], 8, True) if opened else None,
+        numbers(bodies[9][0], 8, True) if costed else None,
     )
 
 
@@ -174,7 +181,7 @@ def check(plan, lending=(), borrowing=()):
     most = 20 * 10 ** 9
     if any(not 0 <= x <= most for row in plan.payments for x in row) or any(not -most <= x <= most for x in plan.outflows):
         raise Refused(6)
-    if any(not 0 <= plan.b(k) <= most for k in years(plan)):
+    if any(not 0 <= plan.b(k) <= most for k in years(plan)) or any(not 0 <= plan.c(j) <= most for j in instruments(plan)):
         raise Refused(6)
     if sum(plan.rollover) != MILLION:
         raise Refused(7)
@@ -200,6 +207,8 @@ def write(plan):
     out += packed(3, "q", plan.outflows)
     if plan.opening is not None:
         out += packed(7, "q", plan.opening)
+    if plan.cost is not None:
+        out += packed(9, "q", plan.cost)
     out += packed(4, "I", plan.rollover)
     for one in plan.patterns:
         out += record(8, struct.pack("<iiB", *one)) if isinstance(one, Slope) else packed(5, "I", one)
@@ -208,7 +217,7 @@ def write(plan):
 
 def numbers_held(values):
     """The plan that values hold, whatever its numbers; check 3. What stands past its N, n, q and m plays no part, nor what stands for an
-    opening that it does not hold, for the rates of a slope, or for the slope of a pattern that lists its rates."""
+    opening or a cost that it does not hold, for the rates of a slope, or for the slope of a pattern that lists its rates."""
     head(*values.head)
     N, n, q, m = values.head
     return Plan(
@@ -218,6 +227,7 @@ def numbers_held(values):
         [values.slopes[t] if values.sloped[t] else values.rates[t][:N - 1] for t in range(m)],
         values.allocation[:n],
         values.opening[:N] if values.opened else None,
+        values.cost[:n] if values.costed else None,
     )
 
 
@@ -257,11 +267,25 @@ def taken(x):
 
 def flow(plan):
     """The allocation's flow, years 1 to N."""
-    return {k: sum(plan.a(k, j) * plan.p(j) for j in range(1, plan.n + 1)) // MILLION + plan.b(k) - plan.o(k) for k in years(plan)}
+    return {k: sum(plan.a(k, j) * plan.p(j) for j in instruments(plan)) // MILLION + plan.b(k) - plan.o(k) for k in years(plan)}
 
 
 def years(plan):
     return range(1, plan.N + 1)
+
+
+def instruments(plan):
+    return range(1, plan.n + 1)
+
+
+def uncut_cost(plan):
+    """1,000,000 times what the allocation has left at the horizon, at cost, nothing cut off."""
+    return sum(plan.c(j) * plan.p(j) for j in instruments(plan))
+
+
+def cost_of(plan):
+    """What the allocation has left at the horizon, at cost."""
+    return uncut_cost(plan) // MILLION
 
 
 def cells(plan, t, flow):
@@ -274,16 +298,21 @@ def cells(plan, t, flow):
 
 
 def left_of(plan, alpha):
-    """The fund of cells, whatever they come to."""
+    """The fund of cells alone, whatever they come to."""
     return sum(share(alpha[k], w(plan, plan.N + 1 - k)) for k in range(2, plan.N + 2))
 
 
-def fund(plan, t, flow):
-    """The fund of a flow in pattern t, with check 11 on its cells and on itself."""
+def fund(plan, t, flow, cost):
+    """The fund of a flow in pattern t, with the cost that is left at the horizon inside. Check 11 is on its cells and on itself."""
     alpha = cells(plan, t, flow)
     for x in alpha.values():
         taken(x)
-    return taken(left_of(plan, alpha))
+    return taken(left_of(plan, alpha) + cost)
+
+
+def fund_of(plan, t):
+    """The fund of the plan's allocation."""
+    return fund(plan, t, flow(plan), cost_of(plan))
 
 
 # ---- Tilley's exact fund
@@ -291,28 +320,30 @@ def fund(plan, t, flow):
 
 def uncut(plan):
     """x_1 to x_N: 1,000,000 times the flow, nothing cut off."""
-    return {k: sum(plan.a(k, j) * plan.p(j) for j in range(1, plan.n + 1)) + MILLION * (plan.b(k) - plan.o(k)) for k in years(plan)}
+    return {k: sum(plan.a(k, j) * plan.p(j) for j in instruments(plan)) + MILLION * (plan.b(k) - plan.o(k)) for k in years(plan)}
 
 
 def exact(plan, t):
-    """H: the exact fund is H / 10^(12 N)."""
+    """H, with the cost inside: the exact fund is H / 10^(12 N)."""
     x = uncut(plan)
     E, i = {}, plan.i(t)
     for k in range(2, plan.N + 2):
         E[k] = x[k - 1] * 10 ** (12 * (k - 2)) + sum(
             E[l] * (MILLION * plan.r(k - l) + i[l] * w(plan, k - l - 1)) * 10 ** (12 * (k - l - 1)) for l in range(2, k))
-    return sum(E[k] * w(plan, plan.N + 1 - k) * 10 ** (12 * (plan.N + 1 - k)) for k in range(2, plan.N + 2))
+    H = sum(E[k] * w(plan, plan.N + 1 - k) * 10 ** (12 * (plan.N + 1 - k)) for k in range(2, plan.N + 2))
+    return H + uncut_cost(plan) * 10 ** (12 * plan.N - 6)
 
 
 # ---- bound, form, gammas, verdict
 
 
 def bound(plan, t):
+    """B; one more where the plan holds a cost, whatever it is."""
     h = max(plan.i(t).values(), default=0)
     G = 1
     for k in range(3, plan.N + 2):
         G = G + -(-G * h // MILLION) + 3 * k - 5
-    return G + plan.N
+    return G + plan.N + (plan.cost is not None)
 
 
 def pattern(plan, t):
@@ -323,8 +354,8 @@ def pattern(plan, t):
 
 def form(plan, t):
     """K_1 to K_n, Q, and the value at the plan's allocation."""
-    K = [fund(plan, t, {k: plan.a(k, j) for k in years(plan)}) for j in range(1, plan.n + 1)]
-    Q = fund(plan, t, {k: plan.b(k) - plan.o(k) for k in years(plan)})
+    K = [fund(plan, t, {k: plan.a(k, j) for k in years(plan)}, plan.c(j)) for j in instruments(plan)]
+    Q = fund(plan, t, {k: plan.b(k) - plan.o(k) for k in years(plan)}, 0)
     return K, Q, sum(x * p for x, p in zip(K, plan.allocation)) // MILLION + Q
 
 
@@ -341,9 +372,9 @@ def word(z, b):
 def verdict(plan):
     """Each pattern's (word, fund, B, K, Q), the word of bits, the plan's word."""
     rows = []
-    x = flow(plan)
+    x, cost = flow(plan), cost_of(plan)
     for t in range(1, plan.m + 1):
-        z, b = fund(plan, t, x), bound(plan, t)
+        z, b = fund(plan, t, x, cost), bound(plan, t)
         K, Q, _ = form(plan, t)
         rows.append((word(z, b), z, b, K, Q))
     bits = sum(1 << t for t, row in enumerate(rows) if row[0] == 2)
@@ -367,7 +398,7 @@ def listing(data):
     return printed(rows, plan_word)
 
 
-# ---- the cash account
+# ---- the cash account, which does not count the cost
 
 
 def rate_of(before, t, lending, borrowing):
@@ -459,10 +490,10 @@ def form_refused(plan):
 
 def against(plan, order):
     """The first pattern, as they are ordered, whose fund is below 0 or refused 11; None if there is none."""
-    x = flow(plan)
+    x, cost = flow(plan), cost_of(plan)
     for t in order:
         try:
-            if fund(plan, t, x) < 0:
+            if fund(plan, t, x, cost) < 0:
                 return t
         except Refused:
             return t
@@ -486,10 +517,10 @@ def solvents(plan, parts):
 
 def funds(plan):
     """The fund of each pattern, None where it is refused 11."""
-    x, found = flow(plan), []
+    x, cost, found = flow(plan), cost_of(plan), []
     for t in range(1, plan.m + 1):
         try:
-            found.append(fund(plan, t, x))
+            found.append(fund(plan, t, x, cost))
         except Refused:
             found.append(None)
     return found
@@ -528,7 +559,7 @@ def untrue_found(plan, parts, shares):
     return None
 
 
-# ---- what is refused through the opening, through slopes or through lists
+# ---- what is refused through the opening, the cost, slopes or lists
 
 
 def refusal(call, *given):
@@ -540,13 +571,82 @@ def refusal(call, *given):
     return 0
 
 
-def through_opening(data):
-    """4, 5 or 6 where a file is refused so for its records of kind 7 alone: without them it gets none of these three. Else 0."""
+def through(data, unwanted):
+    """4, 5 or 6 where a file is refused so for its records of one kind alone: without them it gets none of these three. Else 0."""
     number = refusal(read, data)
     if number not in (4, 5, 6):
         return 0
-    left = b"".join(record(kind, body) for kind, body in records(data) if kind != 7)
+    left = b"".join(record(kind, body) for kind, body in records(data) if kind != unwanted)
     return 0 if refusal(read, left) in (4, 5, 6) else number
+
+
+def through_opening(data):
+    return through(data, 7)
+
+
+THROUGH_COST = ["4, before the outflows", "4, before the opening", "4, after kind 4", "4, at the end", "4, twice",
+                "5, too short", "5, too long", "5, N amounts", "6, the first is -1", "6, the last is -1",
+                "6, the first is 20000000001", "6, the last is 20000000001"]
+
+
+def through_cost(data):
+    """Why a file is refused 4, 5 or 6 for its records of kind 9 alone, of THROUGH_COST where it is one of these."""
+    number = through(data, 9)
+    if number == 0:
+        return
+    found = records(data)
+    at = [kind for kind, _ in found].index(9)
+    N, n, body = data[4], data[5], found[at][1]
+    if number == 4:
+        twice = [kind for kind, _ in found].count(9) > 1
+        before, after = found[at - 1][0], found[at + 1][0] if at + 1 < len(found) else None
+        place = {3: "before the outflows", 7: "before the opening", None: "at the end"}.get(after, f"after kind {before}")
+        yield f"4, {'twice' if twice else place}"
+    elif number == 5:
+        yield "5, too short" if len(body) < 8 * n else "5, too long"
+        yield from ["5, N amounts"] * (len(body) == 8 * N)
+    else:
+        cost = numbers(body, 8, True)
+        yield from (f"6, the {which} is {one}" for which, one in (("first", cost[0]), ("last", cost[-1])) if n > 1)
+
+
+def without_cost(plan):
+    """The plan as if it held no cost."""
+    other = copy.copy(plan)
+    other.cost = None
+    return other
+
+
+LIMIT_BY_COST = ["the fund", "the fund by one", "K", "K by one"]
+
+
+def limit_by_cost(plan):
+    """What is past the limit, of LIMIT_BY_COST, where the verdict is refused 11 and would not be without the cost."""
+    if refusal(verdict, plan) != 11 or refusal(verdict, without_cost(plan)):
+        return
+    for t in range(1, plan.m + 1):
+        z, K = fund_of(without_cost(plan), t) + cost_of(plan), form(without_cost(plan), t)[0]
+        for what, each in ("the fund", [z]), ("K", [x + plan.c(j) for j, x in enumerate(K, 1)]):
+            yield from [what] * (max(each) > LIMIT)
+            yield from [f"{what} by one"] * (max(each) == LIMIT + 1)
+
+
+BY_COST = ["the fund at the limit", "K at the limit", "the last cell at the limit", "a word", "a word by a cost of 0"]
+
+
+def by_cost(plan, rows):
+    """What the cost has its part in, of BY_COST, where the verdict is taken: a word is another without it. A last cell at the limit is that
+    of the allocation; the cost is not in it, and the fund is not past the limit with it."""
+    cost, none = cost_of(plan), plan.cost is None or not any(plan.cost)
+    for t, (said, z, b, K, _) in enumerate(rows, 1):
+        if plan.cost is not None and word(z - cost, b - 1) != said:
+            yield "a word by a cost of 0" if none else "a word"
+        if not none and LIMIT in [x for x, c in zip(K, plan.cost) if c]:
+            yield "K at the limit"
+        if cost and z == LIMIT:
+            yield "the fund at the limit"
+        if cost and z > LIMIT / 2 and cells(plan, t, flow(plan))[plan.N + 1] == LIMIT:
+            yield "the last cell at the limit"
 
 
 def slope_reasons(plan):

@@ -1,11 +1,12 @@
 """Plans from a seed, damaged files, lists of rates and plans for cash accounts, and plans to find an allocation for.
 
-Sizes go over all of N, n, q and m; notes are plain or odd; half of the plans hold an opening; outflows are matched to the flow,
-so that funds lie within a few units of zero and loans roll into loans to the last year; rates are level, rising or wild, and are
-listed, meant by slopes, or some the one and some the other; amounts, and the rates that a slope means, lie at the ends of their ranges,
-its start and step at those of 32 bits, and cells and funds at 10^12 and one past it, on both sides of zero. Lists are right, or fail one
-check or more; accounts lie near zero in the last year or in most years, change sides often, and come to 10^12 and one past it. Of the
-allocations that a search goes through one is good, by nothing or by little, or some, all or none are; and some, or all, are refused 11.
+Sizes go over all of N, n, q and m; notes are plain or odd; half of the plans hold an opening, and half a cost; outflows are matched to
+the flow and to what is left at the horizon, so that funds lie within a few units of zero and loans roll into loans to the last year; rates
+are level, rising or wild, and are listed, meant by slopes, or some the one and some the other; amounts, and the rates that a slope means,
+lie at the ends of their ranges, its start and step at those of 32 bits, and cells and funds at 10^12 and one past it, on both sides of
+zero, some by the cost alone. Lists are right, or fail one check or more; accounts lie near zero in the last year or in most years, change
+sides often, and come to 10^12 and one past it. Of the allocations that a search goes through one is good, by nothing or by little, or some,
+all or none are; and some, or all, are refused 11.
 """
 import math
 import struct
@@ -50,6 +51,21 @@ def opening(rng, N):
     amounts = [0] * N if kind < 0.1 else note(rng, N)
     if kind > 0.8:
         amounts[rng.randrange(N)] = MOST
+    return amounts
+
+
+def cost(rng, n):
+    """What is left of each instrument at the horizon, at cost, or as often None: the same for all, or of each nothing, the most or any
+    amount; now and then with the most for one of them, or zeros."""
+    if rng.random() < 0.5:
+        return None
+    kind = rng.random()
+    if kind < 0.15:
+        return [0] * n
+    top = rng.choice([1, 10, 10 ** 6, 10 ** 9, MOST])
+    amounts = [rng.randint(1, top)] * n if kind < 0.3 else [rng.choice([0, top, rng.randint(0, top)]) for _ in range(n)]
+    if kind > 0.9:
+        amounts[rng.randrange(n)] = MOST
     return amounts
 
 
@@ -137,7 +153,7 @@ def matched(rng, plan):
     """The last outflow moved such that the fund of one pattern is within a few units of zero, if it stays in its range."""
     t = rng.randint(1, plan.m)
     try:
-        z, b = oracle.fund(plan, t, oracle.flow(plan)), oracle.bound(plan, t)
+        z, b = oracle.fund_of(plan, t), oracle.bound(plan, t)
     except oracle.Refused:
         return plan
     last = plan.outflows[-1] + z + rng.choice([0, 1, -1, b, b - 1, b + 1, rng.randint(-3, b + 3)])
@@ -156,7 +172,8 @@ def plain(rng):
         outflows = [rng.randint(-top, top) for _ in range(N)]
     else:
         outflows = [top] + [0] * (N - 1)
-    plan = oracle.Plan([note(rng, N) for _ in range(n)], outflows, parts(rng, q), patterns(rng, N, m), parts(rng, n), opening(rng, N))
+    plan = oracle.Plan([note(rng, N) for _ in range(n)], outflows, parts(rng, q), patterns(rng, N, m), parts(rng, n), opening(rng, N),
+                       cost(rng, n))
     return matched(rng, plan) if rng.random() < 0.7 else plan
 
 
@@ -166,22 +183,29 @@ def largest(rng):
     outflows = [rng.randint(-10 ** 8, 10 ** 8) for _ in range(N)]
     payments = [[rng.randint(0, 10 ** 8) for _ in range(N)] for _ in range(n)]
     older = rng.choice([None, [rng.randint(0, 10 ** 8) for _ in range(N)]])
-    return matched(rng, oracle.Plan(payments, outflows, parts(rng, q), patterns(rng, N, m), parts(rng, n), older))
+    left = rng.choice([None, [rng.randint(0, 10 ** 8) for _ in range(n)]])
+    return matched(rng, oracle.Plan(payments, outflows, parts(rng, q), patterns(rng, N, m), parts(rng, n), older, left))
 
 
 def at_the_limit(rng):
     """In one of the patterns one flow, that of the allocation, an instrument or Q, comes to 10^12 or -10^12, or past it: its fund
     and its last cell (all is rolled over every year), its fund and no cell (nothing is before the horizon), or its last cell but one
-    and not its fund. In half of the plans an opening has its part in the flow, and in half rates are meant by slopes."""
-    N, m = rng.randint(24, 30), rng.randint(1, 3)
-    whose = rng.choice(["allocation", "instrument", "Q"])
-    where = rng.choice(["cell and fund", "fund"] + ["cell"] * (whose != "instrument"))
-    sign = 1 if whose == "instrument" else rng.choice([1, -1])
+    and not its fund. In half of the plans an opening has its part in the flow, and in half rates are meant by slopes; in most a cost has its
+    part in the fund, from 1 on: without it the fund is on the other side of the limit, or so is the last cell, which it has no part in."""
+    if rng.random() < 0.1:
+        return last_cell_at_the_limit(rng)
+    N, m = rng.randint(24, 30), rng.choice([1, 1, 2, 3])
+    whose = rng.choice(["allocation", "allocation", "instrument", "Q"])
+    where = rng.choice(["cell and fund", "cell and fund", "fund", "fund"] + ["cell"] * (whose != "instrument"))
+    sign = {"allocation": rng.choice([1, -1, -1]), "instrument": 1, "Q": rng.choice([1, -1])}[whose]
     rates = [[0] * (N - 1) for _ in range(m)]
     t = rng.randint(1, m)
     middle, step = rng.randint(150000, 170000), rng.choice([0, rng.randint(-1000, 1000)])
     rates[t - 1] = [middle + step * k for k in range(N - 1)]
     plan = oracle.Plan([[0] * N, [0] * N], [0] * N, [0] * 29 * (where == "fund") + [oracle.MILLION], rates, [0, oracle.MILLION])
+    if rng.random() < 0.8:
+        plan.cost = some_left(rng, whose, 10 ** 9 if where == "cell" else MOST)
+    inside = 0 if whose == "Q" or where == "cell" else plan.c(1) if whose == "instrument" else plan.c(2)
     end = N
     if where == "cell":
         end, rates[t - 1][-1] = N - 1, 0
@@ -193,7 +217,7 @@ def at_the_limit(rng):
         alpha = oracle.cells(plan, t, flow)
         return alpha[N] if where == "cell" else oracle.left_of(plan, alpha)
 
-    wanted = sign * (oracle.LIMIT + rng.choice([0, 0, 1, 1, 10 ** 6]))
+    wanted = sign * (oracle.LIMIT + rng.choice([0, 0, 0, 1, 1, 10 ** 6])) - inside
     step = wanted * 10 ** 9 // reached(flow(10 ** 9, 10 ** 9))
     x = list(flow(step, step + wanted - reached(flow(step, step))).values())
     if whose == "instrument":
@@ -213,10 +237,37 @@ def at_the_limit(rng):
     return plan
 
 
+def some_left(rng, whose, most):
+    """The cost of two instruments, the second of which has all the allocation: from 1 on for the one that matters, any for the other."""
+    amounts = [rng.choice([1, 2, rng.randint(1, most), most]) for _ in range(2)]
+    if whose == "Q" or rng.random() < 0.2:
+        amounts[1 if whose == "Q" else rng.choice([0, 1])] = 0
+    return amounts
+
+
+def last_cell_at_the_limit(rng):
+    """The last cell of the allocation comes to the limit, or one past it, and its fund does not, with the cost inside neither: what comes in
+    in even years is rolled over to even years, what is owed in odd years to odd years."""
+    N, rate = 30, rng.randint(16500, 18000)
+    rates = [rate if k % 2 == 1 else 0 for k in range(2, N + 1)]
+    even = [MOST if k % 2 == 0 else 0 for k in range(1, N + 1)]
+    left = [rng.choice([1, rng.randint(1, MOST), MOST])]
+    plan = oracle.Plan([even], [0] * N, [0, oracle.MILLION], [rates], [oracle.MILLION], list(even), left)
+
+    def cell(step, last):
+        return oracle.cells(plan, 1, {k: last if k == N else step if k % 2 == 0 else -MOST for k in oracle.years(plan)})[N + 1]
+
+    wanted = oracle.LIMIT + rng.choice([0, 0, 0, 1])
+    step = wanted * 10 ** 9 // cell(10 ** 9, 10 ** 9)
+    last = step + wanted - cell(step, step)
+    plan.outflows = [2 * MOST - last if k == N else 2 * MOST - step if k % 2 == 0 else MOST for k in oracle.years(plan)]
+    return plan
+
+
 def to_fail(rng):
-    """Checks on numbers that are to fail: one or two of them; 8, and 8 with 13, more often than others."""
+    """Checks on numbers that are to fail: one or two of them; 6, 8, and 8 with 13, more often than others."""
     checks = [6, 7, 13, 8, 9]
-    return rng.choice([rng.sample(checks, 1), rng.sample(checks, 1), rng.sample(checks, 2), [8], [8, 13]])
+    return rng.choice([rng.sample(checks, 1), rng.sample(checks, 1), rng.sample(checks, 2), [6], [8], [8, 13]])
 
 
 def spoil(rng, plan, check):
@@ -235,9 +286,9 @@ def spoil(rng, plan, check):
             of[j] += rng.choice([1, oracle.MILLION])
 
     if check == 6:
-        row = rng.choice([rng.choice(plan.payments), plan.outflows] + [plan.opening] * (plan.opening is not None))
+        row = rng.choice([rng.choice(plan.payments), plan.outflows, plan.opening, plan.cost, plan.cost]) or plan.outflows
         low = -MOST if row is plan.outflows else 0
-        row[rng.randrange(plan.N)] = rng.choice([low - 1, MOST + 1, 2 ** 63 - 1, -2 ** 63])
+        row[rng.choice([0, -1, rng.randrange(len(row))])] = rng.choice([low - 1, low - 1, MOST + 1, MOST + 1, 2 ** 63 - 1, -2 ** 63])
     elif check == 7:
         shares(plan.rollover)
     elif check == 13:
@@ -263,9 +314,9 @@ def outside(rng):
 
 
 def values(rng, plan):
-    """The plan held as values, with anything past its N, n, q and m, for an opening that it does not hold, for the rates of its slopes
-    and for the slopes of its lists; now and then one number of the head is outside its range. A T outside its range becomes, as often as
-    not, one that no byte holds."""
+    """The plan held as values, with anything past its N, n, q and m, for an opening or a cost that it does not hold, for the rates of its
+    slopes and for the slopes of its lists; now and then one number of the head is outside its range. A T outside its range becomes, as
+    often as not, one that no byte holds."""
     kind = rng.randint(1, 4)
 
     def rest(amount):
@@ -309,7 +360,8 @@ def values(rng, plan):
     return oracle.Values(head, rows(plan.payments, 16, True), filled(plan.outflows, 30, True), filled(plan.rollover, 30),
                          rows(lists, 64), filled(plan.allocation, 16), flag(plan.opening is not None),
                          filled(plan.opening or [], 30, True), [flag(sloped) for sloped in slopes] + [count() for _ in range(past)],
-                         [held_slope(one) for one in plan.patterns + [None] * past])
+                         [held_slope(one) for one in plan.patterns + [None] * past],
+                         flag(plan.cost is not None), filled(plan.cost or [], 16, True))
 
 
 def place(found, kind):
@@ -319,31 +371,32 @@ def place(found, kind):
 
 def misplaced_slope(rng, found, N):
     """One slope more, or in the place of another record: where none may stand, unless it takes the place of a pattern."""
-    at = rng.choice([place(found, kind) for kind in (1, 2, 3, 7, 4, 5, 6)] + [len(found)])
+    at = rng.choice([place(found, kind) for kind in (1, 2, 3, 7, 9, 4, 5, 6)] + [len(found)])
     one = 8, struct.pack("<iiB", *slope(rng, N))
     return found[:at] + [one] + found[at + rng.choice([0, 1]):]
 
 
-def misplaced(rng, found, N):
-    """The opening, or another if there is none, where none may stand: at the front, before the outflows, after the rollover, at the
-    end; or twice."""
-    body = dict(found).get(7, bytes(8 * N))
-    found = [one for one in found if one[0] != 7]
-    right = place(found, 4)
-    places = [rng.choice([0, place(found, 3), right + 1, len(found), right])]
+def misplaced(rng, found, kind, size):
+    """The opening (7) or the cost (9), or another if there is none, where none may stand: at the front, before the outflows, the cost before
+    the opening or the opening after the cost, after the rollover, at the end; or twice."""
+    body = dict(found).get(kind, bytes(size))
+    found = [one for one in found if one[0] != kind]
+    right = min(place(found, 9), place(found, 4))
+    wrong = {0, place(found, 3), place(found, 7), place(found, 4), place(found, 4) + 1, len(found)} - {right}
+    places = [rng.choice(sorted(wrong) + [right])]
     if places == [right] or rng.random() < 0.3:
         places.append(right)
     for at in sorted(places, reverse=True):
-        found.insert(at, (7, body))
+        found.insert(at, (kind, body))
     return found
 
 
-RECORDS = [6, 7, 8, 8, 8, 9, 10, 11, 12]  # the kinds of damage to records; those of another length come more often
+RECORDS = [6, 7, 8, 8, 8, 9, 9, 9, 10, 11, 12]  # the kinds of damage to records; those of another length or place come more often
 
 
 def damaged(rng, data):
     """A file cut, padded, with a byte changed, or with records swapped, dropped, doubled, of another length or of another kind, with
-    a byte of a slope changed, or with an opening or a slope at a wrong place."""
+    a byte of a slope changed, or with an opening, a cost or a slope at a wrong place."""
     kind = rng.choice([1, 2, 3, 4, 5, *RECORDS])
     if kind == 1:
         return data[:rng.randrange(len(data))]
@@ -356,11 +409,11 @@ def damaged(rng, data):
         return data[:at] + bytes([rng.randrange(256)]) + data[at + 1:]
     if kind == 5:
         return data[:4] + bytes([rng.choice([0, 1, 17, 31, 65, 255]) if k == 0 else x for k, x in enumerate(data[4:8])]) + data[8:]
-    found = oracle.records(data)
+    found, N, n = oracle.records(data), *data[4:6]
     for kind in [kind] + rng.choice([[], rng.sample(RECORDS, 1)]):
         i, j = rng.randrange(len(found)), rng.randrange(len(found))
-        # mostly an opening or a slope, if there is one
-        wanted = rng.choice([7, 7, 8, 8, None])
+        # mostly an opening, a cost or a slope, if there is one
+        wanted = rng.choice([7, 7, 8, 8, 9, 9, None])
         i = rng.choice([at for at, (one, _) in enumerate(found) if one == wanted] or [i])
         kind_i, body = found[i]
         if kind == 6:
@@ -368,24 +421,25 @@ def damaged(rng, data):
         elif kind == 7:
             found[i:i + 1] = rng.choice([[], [found[i]] * 2])
         elif kind == 8:
-            found[i] = (kind_i, rng.choice([body[:-1], body + b"\0", body[:-4], body + bytes(4), body + bytes(8)]))
+            other = [bytes(8 * (n if kind_i == 7 else N))] * (3 if kind_i == 9 else 1)
+            found[i] = (kind_i, rng.choice([body[:-1], body + b"\0", body[:-4], body + bytes(4), body[:-8], body + bytes(8), *other]))
         elif kind == 9:
-            found = misplaced(rng, found, data[4])
+            found = misplaced(rng, found, *rng.choice([(7, 8 * N), (9, 8 * n), (9, 8 * n)]))
         elif kind == 10:
-            found = misplaced_slope(rng, found, data[4])
+            found = misplaced_slope(rng, found, N)
         elif kind == 11 and kind_i == 8 and body:
             at = rng.choice([len(body) - 1, rng.randrange(len(body))])
             found[i] = (8, body[:at] + bytes([rng.randrange(256)]) + body[at + 1:])
         else:
-            others = {7: [8, 0, 3, 263], 8: [5, 5, 7, 0, 264], 5: [8, 8, 7]}
-            found[i] = (rng.choice(others.get(kind_i, [7, 8])), body)
+            others = {7: [8, 9, 0, 3, 263], 9: [7, 8, 10, 0, 265], 8: [5, 5, 7, 9, 0, 264], 5: [8, 8, 7, 9]}
+            found[i] = (rng.choice(others.get(kind_i, [7, 8, 9])), body)
     return b"".join(oracle.record(kind, body) for kind, body in found)
 
 
 def file(rng):
     """Any of these."""
     kind = rng.random()
-    if kind < 0.50:
+    if kind < 0.45:
         return oracle.write(plain(rng))
     if kind < 0.55:
         return oracle.write(at_the_limit(rng))
@@ -452,9 +506,10 @@ def some_years(rng):
 
 def few(rng, N, payments=None, allocation=None):
     """A plan of N years with few instruments, terms and patterns; its outflows are 0."""
-    n = rng.randint(1, 3)
-    return oracle.Plan(payments or [note(rng, N) for _ in range(n)], [0] * N, parts(rng, rng.randint(1, 3)),
-                       patterns(rng, N, rng.randint(1, 2)), allocation or parts(rng, n), opening(rng, N))
+    payments = payments or [note(rng, N) for _ in range(rng.randint(1, 3))]
+    n = len(payments)
+    return oracle.Plan(payments, [0] * N, parts(rng, rng.randint(1, 3)), patterns(rng, N, rng.randint(1, 2)), allocation or parts(rng, n),
+                       opening(rng, N), cost(rng, n))
 
 
 def steered(plan, lending, borrowing, wanted):
@@ -595,7 +650,9 @@ def with_more(rng, plan):
     """The plan with more than four instruments; five as often as not."""
     n = rng.choice([5, rng.randint(5, 16)])
     more = [note(rng, plan.N) for _ in range(n - plan.n)]
-    return oracle.Plan(plan.payments + more, plan.outflows, plan.rollover, plan.patterns, plan.allocation + [0] * len(more), plan.opening)
+    zeros = [0] * len(more)
+    return oracle.Plan(plan.payments + more, plan.outflows, plan.rollover, plan.patterns, plan.allocation + zeros, plan.opening,
+                       None if plan.cost is None else plan.cost + zeros)
 
 
 def rivals(rng, N, n):
@@ -622,12 +679,14 @@ def to_search(rng, notes):
     elif kind < 0.05:
         N, n, m = rng.randint(2, 3), 2, 64
     outflows = [rng.randint(0, 5 * 10 ** 8) for _ in range(N)]
-    plan = oracle.Plan(notes(rng, N, n), outflows, parts(rng, rng.randint(1, N)), patterns(rng, N, m), parts(rng, n), opening(rng, N))
+    plan = oracle.Plan(notes(rng, N, n), outflows, parts(rng, rng.randint(1, N)), patterns(rng, N, m), parts(rng, n), opening(rng, N),
+                       cost(rng, n))
     return plan, 40 if kind < 0.008 else few_parts(rng, plan)
 
 
 def torn(rng):
-    """A plan whose instruments are worth the same, but each is worth less in one of the patterns: the best allocation has some of each."""
+    """A plan whose instruments are worth the same, but each is worth less in one of the patterns: the best allocation has some of each.
+    What is left of them at the horizon, if anything, is the same."""
     n = rng.randint(2, 4)
     rates = [[100000] * n for _ in range(n)]
     for j, row in enumerate(rates):
@@ -637,7 +696,8 @@ def torn(rng):
             row[j - 1] = 1210000 * oracle.MILLION // (oracle.MILLION + row[j]) - oracle.MILLION
     payments = [[11 ** j * 10 ** (9 - j) if k == j else 0 for k in range(n + 1)] for j in range(n)]
     rng.shuffle(rates)
-    plan = oracle.Plan(payments, [0] * (n + 1), [oracle.MILLION], rates, parts(rng, n))
+    left = rng.choice([None, [rng.choice([0, 1, rng.randint(0, 10 ** 9)])] * n])
+    plan = oracle.Plan(payments, [0] * (n + 1), [oracle.MILLION], rates, parts(rng, n), cost=left)
     return plan, few_parts(rng, plan)
 
 
@@ -653,8 +713,8 @@ def by_worth(plan, parts):
 
 def moved(plan, shares, wanted):
     """The last outflow moved such that with these shares the least fund of all patterns is `wanted`, if it stays in its range."""
-    x = oracle.flow(oracle.allocated(plan, shares))
-    last = plan.outflows[-1] - wanted + min(oracle.fund(plan, t, x) for t in range(1, plan.m + 1))
+    other = oracle.allocated(plan, shares)
+    last = plan.outflows[-1] - wanted + min(oracle.fund_of(other, t) for t in range(1, plan.m + 1))
     if -MOST <= last <= MOST:
         plan.outflows[-1] = last
 
@@ -690,13 +750,14 @@ def some_of_each(rng):
 
 
 def cuts_in_flows(rng):
-    """Nothing is cut but the flow of each year. Where that takes off most the fund is -1, and the form's value 0 or more."""
+    """Nothing is cut but the flow of each year and the cost. Where that takes off most the fund is -1, and the form's value 0 or more."""
     N, n = rng.randint(2, 6), rng.randint(2, 4)
-    plan = oracle.Plan(twins(rng, N, n), [0] * N, [oracle.MILLION], [[0] * (N - 1)], parts(rng, n), opening(rng, N))
+    plan = oracle.Plan(twins(rng, N, n), [0] * N, [oracle.MILLION], [[0] * (N - 1)], parts(rng, n), opening(rng, N), cost(rng, n))
     asked = few_parts(rng, plan)
 
     def cut(shares):
-        return sum(x % oracle.MILLION for x in oracle.uncut(oracle.allocated(plan, shares)).values())
+        other = oracle.allocated(plan, shares)
+        return sum(x % oracle.MILLION for x in [*oracle.uncut(other).values(), oracle.uncut_cost(other)])
 
     moved(plan, max(oracle.grid(n, asked), key=cut), -1)
     return plan, asked
@@ -743,7 +804,8 @@ def reaching(plan, t, end, wanted, beside):
 
 def passes_the_limit(rng):
     """In one of the patterns one K_j, Q or the fund of one allocation comes to the limit or past it; or the last cell but one of Q or of
-    one allocation does, and its fund does not. Where it is a K_j or Q, some allocations, or all, have funds that are taken and above 0."""
+    one allocation does, and its fund does not. Where it is a K_j or Q, some allocations, or all, have funds that are taken and above 0. In
+    half of the plans a cost has its part in K_j and in the fund."""
     N, n, m = rng.randint(16, 18), rng.choice([2, 2, 2, 3]), rng.randint(1, 3)
     whose, past = rng.choice(["K", "Q", "fund", "cell"]), oracle.LIMIT + rng.choice([0, 0, 1, 1, 10 ** 6])
     t, end = rng.randint(1, m), N if whose in ("K", "fund") else N - 1
@@ -756,12 +818,14 @@ def passes_the_limit(rng):
         K[rng.randrange(n)] = past
     elif whose == "Q":
         K = [oracle.LIMIT - rng.randint(1, 10 ** 10) for _ in range(n)]
-    plan.payments = [reaching(plan, t, end, one, nothing) for one in K]
+    if rng.random() < 0.5:
+        plan.cost = [rng.choice([1, rng.randint(0, 10 ** 9)]) for _ in range(n)]
+    plan.payments = [reaching(plan, t, end, one - plan.c(j), nothing) for j, one in enumerate(K, 1)]
     if whose in ("K", "Q"):
         owed = reaching(plan, t, end, -rng.randint(1, max(K)) if whose == "K" else -past, nothing)
     else:
-        shares = rng.choice(list(oracle.grid(n, asked)))
-        owed = reaching(plan, t, end, past, oracle.flow(oracle.allocated(plan, shares)))
+        other = oracle.allocated(plan, rng.choice(list(oracle.grid(n, asked))))
+        owed = reaching(plan, t, end, past - (oracle.cost_of(other) if whose == "fund" else 0), oracle.flow(other))
     plan.outflows = [-x for x in owed]
     if whose in ("Q", "cell"):
         plan.outflows[-1] = -MOST if whose == "Q" else rng.randint(1, 10 ** 10)

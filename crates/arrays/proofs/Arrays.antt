@@ -2,7 +2,7 @@
 use mathlib.Core.Path.{_≡_, refl, sym, ap, _∙_}
 use mathlib.Core.Bool.{Bool, true, false}
 use mathlib.Core.Logic.{⊎-elim}
-use mathlib.Core.List.{List, [], _++_}
+use mathlib.Core.List.{List, [], _∷_, _++_}
 use Prim.Native.Nat.{ℕ, zero, suc, _+_, _-_, _*_, _≤_, _<_}
 use native.Mathlib.Nat.{not-suc-le-zero}
 use native.Mathlib.Omega.{arith}
@@ -21,7 +21,7 @@ use Rattle.plan.specs.declared.Plan.{Plan}
 use Rattle.plan.specs.Held.{Held, flag, instrumentAt, patternAt, missingPattern, noInstrument, noPattern, planFrom}
 use Rattle.plan.specs.Numbers.{meaning}
 use Rattle.plan.specs.Refusal.{Head}
-use Rattle.arrays.specs.Arrays.{joined, valuesAt, outflowsFrom, openingFrom, allocationFrom, slopedFrom, untilFrom, startFrom, stepFrom, ofEach, slopedOf, untilsOf, startsOf, stepsOf, headCounts, allCounts, allAmounts, allShares, allRates, instrumentsOf, patternOf, patternsOf, planOfArrays}
+use Rattle.arrays.specs.Arrays.{joined, valuesAt, outflowsFrom, openingFrom, costFrom, allocationFrom, slopedFrom, untilFrom, costedFrom, startFrom, stepFrom, ofEach, slopedOf, untilsOf, startsOf, stepsOf, headCounts, allCounts, allAmounts, allShares, allRates, instrumentsOf, patternOf, patternsOf, planOfArrays}
 
 -- ---- parts
 module _ {A : Type 0} where
@@ -95,6 +95,7 @@ pub record Sized (p : Plan) : Type 0 where
   pub spares : (t : ℕ) → t < 64 → patternAt p t .spare ≡ 0
   pub allocation : length (p .allocation) ≡ 16
   pub opening : length (p .opening) ≡ 30
+  pub cost : length (p .cost) ≡ 16
 
 module _ (p : Plan) (s : Sized p) where
   abbrev paid : (j : ℕ) → List ℤ
@@ -110,25 +111,39 @@ module _ (p : Plan) (s : Sized p) where
   flows-long : length flows ≡ openingFrom
   flows-long = length-append (joined 16 paid) (p .outflows) ∙ omega (arith, paid-long, s .outflows)
 
+  -- and those before the cost
+  abbrev invested : List ℤ
+  invested = flows ++ p .opening
+
+  invested-long : length invested ≡ costFrom
+  invested-long = length-append flows (p .opening) ∙ omega (arith, flows-long, s .opening)
+
   instruments-again : instrumentsOf (allAmounts p) ≡ p .instrument
   unfolding instrumentsOf allAmounts
   instruments-again =
       rows-again (λ (l : List ℤ). record { payments = l }) noInstrument 16 (p .instrument) _ (s .instruments)
       (λ j h. ap (λ (l : List ℤ). record { payments = l })
-      (part-first flows (p .opening) (30 * j) 30 (omega (arith, flows-long))
+      (part-first invested (p .cost) (30 * j) 30 (omega (arith, invested-long))
+      ∙ part-first flows (p .opening) (30 * j) 30 (omega (arith, flows-long))
       ∙ part-first (joined 16 paid) (p .outflows) (30 * j) 30 (omega (arith, paid-long)) ∙ part-joined paid 16 (s .payments) j h))
 
   outflows-again : valuesAt (allAmounts p) outflowsFrom 30 ≡ p .outflows
   unfolding allAmounts
   outflows-again =
-      part-first flows (p .opening) outflowsFrom 30 (omega (arith, flows-long))
+      part-first invested (p .cost) outflowsFrom 30 (omega (arith, invested-long))
+      ∙ part-first flows (p .opening) outflowsFrom 30 (omega (arith, flows-long))
       ∙ part-second (joined 16 paid) (p .outflows) outflowsFrom 30 paid-long (s .outflows)
 
   opening-again : valuesAt (allAmounts p) openingFrom 30 ≡ p .opening
   unfolding allAmounts
-  opening-again = part-second flows (p .opening) openingFrom 30 flows-long (s .opening)
+  opening-again =
+      part-first invested (p .cost) openingFrom 30 (omega (arith, invested-long)) ∙ part-second flows (p .opening) openingFrom 30 flows-long (s .opening)
 
-  -- the counts before T, and the rates before the starts and before the steps
+  cost-again : valuesAt (allAmounts p) costFrom 16 ≡ p .cost
+  unfolding allAmounts
+  cost-again = part-second invested (p .cost) costFrom 16 invested-long (s .cost)
+
+  -- the counts before T and before the last, and the rates before the starts and before the steps
   abbrev listed : (t : ℕ) → List ℤ
   listed t = patternAt p t .rates
 
@@ -141,6 +156,23 @@ module _ (p : Plan) (s : Sized p) where
   headed-long : length headed ≡ untilFrom
   headed-long = length-append (headCounts p) (slopedOf (p .pattern)) ∙ omega (arith, length-each (λ row. flag (row .sloped)) 0 (p .pattern))
 
+  abbrev counted : List ℕ
+  counted = headed ++ untilsOf (p .pattern)
+
+  counted-long : length counted ≡ costedFrom
+  counted-long = length-append headed (untilsOf (p .pattern)) ∙ omega (arith, headed-long, length-each (λ row. row .until) 0 (p .pattern))
+
+  count-first : (k : ℕ) → k < costedFrom → getD (allCounts p) k 0 ≡ getD counted k 0
+  unfolding allCounts
+  count-first k h = List·getD-append counted (flag (p .costed) ∷ []) 0 k (omega (arith, counted-long))
+
+  costed-again : getD (allCounts p) costedFrom 0 ≡ flag (p .costed)
+  unfolding allCounts
+  costed-again =
+      let last = flag (p .costed) ∷ [] in
+      let e : costedFrom ≡ length counted + 0 = omega (arith, counted-long) in
+      ap (λ (k : ℕ). getD (counted ++ last) k 0) e ∙ getD-append-add counted last 0 0
+
   abbrev started : List ℤ
   started = joined 64 listed ++ startsOf (p .pattern)
 
@@ -148,7 +180,7 @@ module _ (p : Plan) (s : Sized p) where
   started-long = length-append (joined 64 listed) (startsOf (p .pattern)) ∙ omega (arith, listed-long, length-each (λ row. row .start) (pos 0) (p .pattern))
 
   pattern-again : (t : ℕ) → t < 64 → patternOf (allCounts p) (allRates p) t ≡ patternAt p t
-  unfolding allCounts allRates
+  unfolding allRates
   pattern-again t h =
       rw (
         part-first started (stepsOf (p .pattern)) (30 * t) 30 (omega (arith, started-long)),
@@ -156,6 +188,8 @@ module _ (p : Plan) (s : Sized p) where
         part-joined listed 64 (s .rates) t h,
         each-at (λ row. row .start) (pos 0) (p .pattern) (joined 64 listed) (stepsOf (p .pattern)) startFrom t listed-long h,
         each-last (λ row. row .step) (pos 0) (p .pattern) started stepFrom t started-long h,
+        count-first (slopedFrom + t) (omega arith),
+        count-first (untilFrom + t) (omega arith),
         each-at (λ row. flag (row .sloped)) 0 (p .pattern) (headCounts p) (untilsOf (p .pattern)) slopedFrom t refl h,
         each-last (λ row. row .until) 0 (p .pattern) headed untilFrom t headed-long h,
         flag-again (patternAt p t .sloped),
@@ -173,7 +207,7 @@ module _ (p : Plan) (s : Sized p) where
   pub plan-again : planOfArrays (allCounts p) (allAmounts p) (allShares p) (allRates p) ≡ p
   unfolding planOfArrays valuesAt allCounts
   plan-again =
-      rw (instruments-again, outflows-again, opening-again, patterns-again, flag-again (p .opened))
+      rw (instruments-again, outflows-again, opening-again, cost-again, patterns-again, costed-again, flag-again (p .opened), flag-again (p .costed))
       (rw (take-at (p .rollover) (p .allocation) 30 (s .rollover), part-second (p .rollover) (p .allocation) allocationFrom 16 (s .rollover) (s .allocation)))
 
 -- the plan of what is held is such a plan
@@ -192,6 +226,7 @@ sized-from H few small = record {
   spares = table-each (λ (r : Pattern). r .spare ≡ 0) 64 _ _ _ _ (few .patterns-few) refl (λ t h. refl);
   allocation = length-table 16 _ _ _ (few .instruments-few);
   opening = length-table 30 _ _ _ (omega (arith, few .years-few, pick-few (H .shape .opened) (H .shape .years)));
+  cost = length-table 16 _ _ _ (omega (arith, few .instruments-few, pick-few (H .shape .costed) (H .shape .instruments)));
 }
 
 pub from-again : (H : Held) → Head (meaning H) → ((t : ℕ) → H .pattern t .until < 256) → let p = planFrom H in planOfArrays (allCounts p) (allAmounts p) (allShares p) (allRates p) ≡ p

@@ -24,13 +24,17 @@ module _ {A : Type 0} where
   valuesAt xs at n = take n (drop at xs)
 
 -- ---- the arrays of a plan
--- where the outflows and the money already invested begin among the amounts, the allocation among the shares, which patterns are slopes and
--- their T among the counts, and the starts and the steps of slopes among the rates
+-- where the outflows, the money already invested and the cost that is left at the horizon begin among the amounts, the allocation among the
+-- shares, which patterns are slopes and their T among the counts, where it stands there whether such a cost is held, and where the starts and
+-- the steps of slopes begin among the rates
 abbrev pub outflowsFrom : ℕ
 outflowsFrom = 480
 
 abbrev pub openingFrom : ℕ
 openingFrom = 510
+
+abbrev pub costFrom : ℕ
+costFrom = 540
 
 abbrev pub allocationFrom : ℕ
 allocationFrom = 30
@@ -40,6 +44,9 @@ slopedFrom = 5
 
 abbrev pub untilFrom : ℕ
 untilFrom = 69
+
+abbrev pub costedFrom : ℕ
+costedFrom = 133
 
 abbrev pub startFrom : ℕ
 startFrom = 1_920
@@ -63,16 +70,17 @@ startsOf = ofEach (λ row. row .start) (pos 0)
 abbrev pub stepsOf : List Pattern → List ℤ
 stepsOf = ofEach (λ row. row .step) (pos 0)
 
--- N, n, q and m, whether money already invested is held, which patterns are slopes, and T of each
+-- N, n, q and m, whether money already invested is held, which patterns are slopes, T of each, and whether the cost that is left at the
+-- horizon is held
 abbrev pub headCounts : Plan → List ℕ
 headCounts plan = plan .years ∷ plan .instruments ∷ plan .terms ∷ plan .patterns ∷ flag (plan .opened) ∷ []
 
 unfoldable pub allCounts : Plan → List ℕ
-allCounts plan = (headCounts plan ++ slopedOf (plan .pattern)) ++ untilsOf (plan .pattern)
+allCounts plan = ((headCounts plan ++ slopedOf (plan .pattern)) ++ untilsOf (plan .pattern)) ++ flag (plan .costed) ∷ []
 
--- the payments of the 16 instruments, then the outflows, then the money already invested
+-- the payments of the 16 instruments, then the outflows, then the money already invested, then the cost that is left at the horizon
 unfoldable pub allAmounts : Plan → List ℤ
-allAmounts plan = (joined 16 (λ j. instrumentAt plan j .payments) ++ plan .outflows) ++ plan .opening
+allAmounts plan = ((joined 16 (λ j. instrumentAt plan j .payments) ++ plan .outflows) ++ plan .opening) ++ plan .cost
 
 -- the rollover, then the allocation
 abbrev pub allShares : Plan → List ℕ
@@ -108,7 +116,8 @@ patternOf counts rates t = record {
 unfoldable pub patternsOf : (counts : List ℕ) (rates : List ℤ) → List Pattern
 patternsOf counts rates = table 64 64 (patternOf counts rates) noPattern
 
--- the whole plan; any number but 0 says that money already invested is held, or that a pattern is a slope
+-- the whole plan; any number but 0 says that money already invested is held, or the cost that is left at the horizon, or that a pattern is
+-- a slope
 unfoldable pub planOfArrays : (counts : List ℕ) → (amounts : List ℤ) → (shares : List ℕ) → (rates : List ℤ) → Plan
 planOfArrays counts amounts shares rates = record {
   years = getD counts 0 0;
@@ -122,4 +131,6 @@ planOfArrays counts amounts shares rates = record {
   allocation = valuesAt shares allocationFrom 16;
   opened = ltb 0 (getD counts 4 0);
   opening = valuesAt amounts openingFrom 30;
+  costed = ltb 0 (getD counts costedFrom 0);
+  cost = valuesAt amounts costFrom 16;
 }

@@ -8,7 +8,7 @@ ghost use mathlib.Core.Path.{_≡_};
 ghost use Prim.Native.Nat.{_+_, _≤_, _<_};
 ghost use lib.ListN.{length, drop};
 ghost use lib.Seq.{paste};
-ghost use Rattle.arrays.specs.Arrays.{valuesAt, allocationFrom, slopedOf, untilsOf, startsOf, stepsOf, allCounts, allAmounts, allShares, allRates, allGammas, instrumentsOf, byteOf, patternOf, patternsOf, planOfArrays};
+ghost use Rattle.arrays.specs.Arrays.{valuesAt, costFrom, allocationFrom, slopedOf, untilsOf, startsOf, stepsOf, allCounts, allAmounts, allShares, allRates, allGammas, instrumentsOf, byteOf, patternOf, patternsOf, planOfArrays};
 
 // Where the outflows begin among the amounts.
 const OUTFLOWS: usize = 480;
@@ -16,13 +16,18 @@ const OUTFLOWS: usize = 480;
 // Where the money already invested begins among the amounts.
 const OPENING: usize = 510;
 
+// Where the cost that is left at the horizon begins among the amounts.
+const COST: usize = 540;
+
 // Where the allocation begins among the shares.
 const ALLOCATION: usize = 30;
 
-// Where it begins among the counts which patterns are slopes, and where T of each.
+// Where it begins among the counts which patterns are slopes, and where T of each; and where it stands whether such a cost is held.
 const SLOPED: usize = 5;
 
 const UNTIL: usize = 69;
+
+const COSTED: usize = 133;
 
 // Where the starts and the steps of slopes begin among the rates.
 const START: usize = 1_920;
@@ -127,8 +132,9 @@ fn steps_of(rows: [Pattern; 64]) -> [i32; 64]
     v
 }
 
-// N, n, q and m, and 1 where money already invested is held, else 0; then which patterns are slopes, then T of each.
-pub fn put_counts(plan: Plan, out: &mut [usize; 133])
+// N, n, q and m, and 1 where money already invested is held, else 0; then which patterns are slopes, then T of each, and 1 where the cost that
+// is left at the horizon is held, else 0.
+pub fn put_counts(plan: Plan, out: &mut [usize; 134])
     ensures { λ _. ⌜ now (out .exit) ≡ allCounts plan ⌝ }
 {
     let opened = plan::flag(plan.opened);
@@ -145,6 +151,8 @@ pub fn put_counts(plan: Plan, out: &mut [usize; 133])
     copy_usize(&sloped, 0, out, SLOPED, 64);
     let untils = untils_of(rows);
     copy_usize(&untils, 0, out, UNTIL, 64);
+    let last = [plan::flag(plan.costed)];
+    copy_usize(&last, 0, out, COSTED, 1);
 }
 
 // The payments of an instrument.
@@ -168,8 +176,8 @@ fn gammas_in(row: Row) -> [i64; 30]
     row.values
 }
 
-// The payments of the 16 instruments, then the outflows, then the money already invested.
-pub fn put_amounts(plan: Plan, out: &mut [i64; 540])
+// The payments of the 16 instruments, then the outflows, then the money already invested, then the cost that is left at the horizon.
+pub fn put_amounts(plan: Plan, out: &mut [i64; 556])
     ensures { λ _. ⌜ now (out .exit) ≡ allAmounts plan ⌝ }
 {
     let rows = plan.instrument;
@@ -182,6 +190,8 @@ pub fn put_amounts(plan: Plan, out: &mut [i64; 540])
     copy_i64(&outflows, 0, out, OUTFLOWS, 30);
     let opening = plan.opening;
     copy_i64(&opening, 0, out, OPENING, 30);
+    let cost = plan.cost;
+    copy_i64(&cost, 0, out, COST, 16);
 }
 
 // The rollover, then the allocation.
@@ -244,7 +254,7 @@ fn rates_at(rates: &[i32], at: usize) -> [i32; 30]
 }
 
 // The instruments: thirty payments each, one instrument after the other.
-fn instruments_of(amounts: &[i64; 540]) -> [Instrument; 16]
+fn instruments_of(amounts: &[i64; 556]) -> [Instrument; 16]
     ensures { λ r. ⌜ r ≡ instrumentsOf (now (amounts .entry)) ⌝ }
 {
     let none = Instrument {
@@ -275,7 +285,7 @@ fn byte_of(n: usize) -> u8
 }
 
 // The pattern at t: thirty rates, and the four numbers that say whether it is a slope, and which.
-fn pattern_at(counts: &[usize; 133], rates: &[i32; 2048], t: usize) -> Pattern
+fn pattern_at(counts: &[usize; 134], rates: &[i32; 2048], t: usize) -> Pattern
     requires { ⌜ t < 64 ⌝ }
     ensures { λ r. ⌜ r ≡ patternOf (now (counts .entry)) (now (rates .entry)) t ⌝ }
 {
@@ -292,7 +302,7 @@ fn pattern_at(counts: &[usize; 133], rates: &[i32; 2048], t: usize) -> Pattern
 }
 
 // The patterns, one after the other.
-fn patterns_of(counts: &[usize; 133], rates: &[i32; 2048]) -> [Pattern; 64]
+fn patterns_of(counts: &[usize; 134], rates: &[i32; 2048]) -> [Pattern; 64]
     ensures { λ r. ⌜ r ≡ patternsOf (now (counts .entry)) (now (rates .entry)) ⌝ }
 {
     let none = Pattern {
@@ -319,11 +329,20 @@ fn allocation_of(shares: &[u32; 46]) -> [u32; 16]
     part
 }
 
-// The plan that such arrays hold, whatever they hold. Any number but 0 says that money already invested is held, or that a pattern is a
-// slope.
+// The cost that is left at the horizon, of each instrument.
+fn cost_of(amounts: &[i64; 556]) -> [i64; 16]
+    ensures { λ r. ⌜ r ≡ valuesAt (now (amounts .entry)) costFrom 16 ⌝ }
+{
+    let mut part = [0i64; 16];
+    copy_i64(amounts, COST, &mut part, 0, 16);
+    part
+}
+
+// The plan that such arrays hold, whatever they hold. Any number but 0 says that money already invested is held, or the cost that is left
+// at the horizon, or that a pattern is a slope.
 pub fn plan_of(
-    counts: &[usize; 133],
-    amounts: &[i64; 540],
+    counts: &[usize; 134],
+    amounts: &[i64; 556],
     shares: &[u32; 46],
     rates: &[i32; 2048],
 ) -> Plan
@@ -335,6 +354,7 @@ pub fn plan_of(
     let pattern = patterns_of(counts, rates);
     let allocation = allocation_of(shares);
     let opening = amounts_at(amounts, OPENING);
+    let cost = cost_of(amounts);
     Plan {
         years: counts[0],
         instruments: counts[1],
@@ -346,6 +366,8 @@ pub fn plan_of(
         pattern,
         allocation,
         opening,
+        cost,
         opened: 0 < counts[4],
+        costed: 0 < counts[COSTED],
     }
 }

@@ -24,6 +24,7 @@ ghost use Rattle.arrays.specs.Arrays.{allCounts, allAmounts, allShares, allRate
 ghost use Rattle.planner.specs.Demand3.{FundNear, FormNear, VerdictTrue};
 ghost use Rattle.cash.specs.Theorem.{NearEveryYear, CashTrue};
 ghost use Rattle.cash.specs.Alike.{CashAlike};
+ghost use Rattle.cash.specs.Uncosted.{CashUncosted};
 ghost use Rattle.finder.specs.Claims.{FindTrue};
 ghost use Rattle.finder.specs.Alike.{FindAlike};
 ghost use Rattle.becketgrape.specs.Calls.{fundOfFile, boundOfFile, formOfFile, gammasOfFile, verdictOfFile, cashOfFile, findOfFile};
@@ -44,8 +45,8 @@ pub extern "C" fn planner_list(file: &[u8], out: &mut [u8; 32768]) -> usize
 #[no_mangle]
 pub extern "C" fn planner_read(
     file: &[u8],
-    counts: &mut [usize; 133],
-    amounts: &mut [i64; 540],
+    counts: &mut [usize; 134],
+    amounts: &mut [i64; 556],
     shares: &mut [u32; 46],
     rates: &mut [i32; 2048],
 ) -> u8
@@ -69,8 +70,8 @@ pub extern "C" fn planner_read(
 // The file of a plan that arrays hold, in the first bytes of `buffer`, and its length; on a refusal the buffer is untouched.
 #[no_mangle]
 pub extern "C" fn planner_write(
-    counts: &[usize; 133],
-    amounts: &[i64; 540],
+    counts: &[usize; 134],
+    amounts: &[i64; 556],
     shares: &[u32; 46],
     rates: &[i32; 2048],
     buffer: &mut [u8],
@@ -107,7 +108,7 @@ fn fund_of_file(file: &[u8], t: usize) -> Reckoned
     planner::fund(plan, t)
 }
 
-// The fund, never above the exact fund and below it by less than the bound.
+// The fund with what is left at the horizon, never above the exact fund, which has it inside too, and below it by less than the bound.
 #[no_mangle]
 pub extern "C" fn planner_fund(file: &[u8], pattern: usize, fund: &mut i64) -> u8
     ensures is { λ r. ⌜ record { refusal = r; fund = now (fund .exit) } ≡ fundOfFile (now (file .entry)) pattern ⌝ }
@@ -293,6 +294,7 @@ pub extern "C" fn planner_cash(
         (record { refusal = r; account = now (account .exit); bound = now (bound .exit); word = now (word .exit) }) ⌝ }
     ensures theorem { λ _. ⌜ NearEveryYear ⌝ }
     ensures alike { λ _. ⌜ CashAlike (heldIn (now (file .entry))) (now (lending .entry)) (now (borrowing .entry)) ⌝ }
+    ensures uncosted { λ _. ⌜ CashUncosted (numbersIn (now (file .entry))) (now (lending .entry)) (now (borrowing .entry)) ⌝ }
 {
     let answer = cash_of_file(file, lending, borrowing);
     let v = answer.account;

@@ -39,7 +39,9 @@ use Rattle.cash.specs.Call.{
 }
 use Rattle.cash.specs.Arrays.{accountReckoned}
 use Rattle.cash.specs.Alike.{CashAlike}
+use Rattle.cash.specs.Uncosted.{CashUncosted}
 use Rattle.cash.proofs.Alike.{cash-alike}
+use Rattle.cash.proofs.Uncosted.{cash-uncosted}
 use Rattle.cash.proofs.Theorem.{near-every-year, exactly-solvent, exactly-short}
 
 -- ---- check 3 and the 5 of the lists have passed
@@ -149,5 +151,6 @@ module _ (P : Numbers) (lending borrowing : List ℤ) where
 -- what is answered for a plan, with all that is claimed of it
 module _ (plan : Plan) (lending borrowing : List ℤ) where
   pub cash-answered : {s : CashAnswer} → s ≡ cashAnswer (numbers plan) lending borrowing
-      → (s ≡ cashAnswer (numbers plan) lending borrowing) × (CashTrue (numbers plan) lending borrowing s × (NearEveryYear × CashAlike (held plan) lending borrowing))
-  cash-answered e = (e, (subst (CashTrue (numbers plan) lending borrowing) (sym e) (cash-true (numbers plan) lending borrowing), (near-every-year, cash-alike lending borrowing (held plan))))
+      → (s ≡ cashAnswer (numbers plan) lending borrowing)
+      × (CashTrue (numbers plan) lending borrowing s × (NearEveryYear × (CashAlike (held plan) lending borrowing × CashUncosted (numbers plan) lending borrowing)))
+  cash-answered e = (e, (subst (CashTrue (numbers plan) lending borrowing) (sym e) (cash-true (numbers plan) lending borrowing), (near-every-year, (cash-alike lending borrowing (held plan), cash-uncosted (numbers plan) lending borrowing))))

@@ -11,9 +11,9 @@ use Rattle.whole.proofs.Case.{agree-at, agree-join}
 use Rattle.reckoning.specs.Reckoning.{flow, paid}
 use Rattle.reckoning.specs.Bound.{h as largestRate, ceiling}
 use Rattle.reckoning.specs.Arrays.{ratesOf}
-use Rattle.plan.specs.Held.{instrumentsHeld, outflowsHeld, rolloverHeld, patternsHeld, allocationHeld, openingHeld}
-use Rattle.plan.specs.Refusal.{headOk, paymentsOk, paymentsFit, outflowsOk, openingOk, amountsOk, rolloverOk, untilsOk, ratesOk, ratesFit, allocationOk, headRefusal, amountsRefusal, ratesRefusal, allocationRefusal, refusalWith}
-use Rattle.plan.specs.Case.{nearL, planL, renewed}
+use Rattle.plan.specs.Held.{instrumentsHeld, outflowsHeld, rolloverHeld, patternsHeld, allocationHeld, openingHeld, costHeld}
+use Rattle.plan.specs.Refusal.{headOk, paymentsOk, paymentsFit, outflowsOk, openingOk, costOk, amountsOk, rolloverOk, untilsOk, ratesOk, ratesFit, allocationOk, headRefusal, amountsRefusal, ratesRefusal, allocationRefusal, refusalWith}
+use Rattle.plan.specs.Case.{nearL, planL, renewed, longer}
 use Rattle.planner.specs.Calls.{flowOf}
 use Rattle.planner.specs.Verdict.{wordOf}
 use Rattle.cash.specs.Account.{rateFor, next, exactNext, account, X, h, g}
@@ -30,14 +30,14 @@ aparts-agree = refl
 
 calls-agree : agree callCases ≡ true
 unfolding agree callCases isSame isBetween account g h largestRate largest rateFor next ceiling floor shareOf ratesOf nth cashAnswer shapeRefusal lengthsRefusal cashAt numbersRefusal refusalWith listsRefusal
-    listOk inOrder cashReckoned accountsFit wordOf all headRefusal amountsRefusal ratesRefusal allocationRefusal headOk paymentsOk paymentsFit outflowsOk openingOk amountsOk rolloverOk
-    untilsOk ratesOk ratesFit allocationOk flowOf flow paid instrumentsHeld outflowsHeld rolloverHeld patternsHeld allocationHeld openingHeld sum sumℕ cut entry planL nearL renewed paidYearly
+    listOk inOrder cashReckoned accountsFit wordOf all headRefusal amountsRefusal ratesRefusal allocationRefusal headOk paymentsOk paymentsFit outflowsOk openingOk costOk amountsOk rolloverOk
+    untilsOk ratesOk ratesFit allocationOk flowOf flow paid instrumentsHeld outflowsHeld rolloverHeld patternsHeld allocationHeld openingHeld costHeld sum sumℕ cut entry planL nearL renewed longer paidYearly
 calls-agree = refl
 
 refusals-agree : agree refusalCases ≡ true
 unfolding agree refusalCases isSame isBetween account g h largestRate largest rateFor next ceiling floor shareOf ratesOf nth cashAnswer shapeRefusal lengthsRefusal cashAt numbersRefusal refusalWith listsRefusal
-    listOk inOrder cashReckoned accountsFit wordOf all headRefusal amountsRefusal ratesRefusal allocationRefusal headOk paymentsOk paymentsFit outflowsOk openingOk amountsOk rolloverOk
-    untilsOk ratesOk ratesFit allocationOk flowOf flow paid instrumentsHeld outflowsHeld rolloverHeld patternsHeld allocationHeld openingHeld sum sumℕ cut entry planL nearL
+    listOk inOrder cashReckoned accountsFit wordOf all headRefusal amountsRefusal ratesRefusal allocationRefusal headOk paymentsOk paymentsFit outflowsOk openingOk costOk amountsOk rolloverOk
+    untilsOk ratesOk ratesFit allocationOk flowOf flow paid instrumentsHeld outflowsHeld rolloverHeld patternsHeld allocationHeld openingHeld costHeld sum sumℕ cut entry planL nearL
 refusals-agree = refl
 
 -- in every worked case the definitions give what is stated

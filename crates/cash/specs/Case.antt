@@ -9,7 +9,7 @@ use Rattle.whole.specs.Entry.{nth}
 use Rattle.reckoning.specs.Arrays.{ratesOf}
 use Rattle.plan.specs.Held.{noInstrument, noPattern}
 use Rattle.plan.specs.Numbers.{numbers}
-use Rattle.plan.specs.Case.{planL, renewed}
+use Rattle.plan.specs.Case.{planL, renewed, longer}
 use Rattle.plan.specs.declared.Plan.{Plan}
 use Rattle.planner.specs.Verdict.{solvent, short, close}
 use Rattle.cash.specs.declared.CashAnswer.{CashAnswer}
@@ -67,6 +67,10 @@ onL = cashAnswer (numbers planL)
 abbrev onRenewed : (money : ℤ) → CashAnswer
 onRenewed money = cashAnswer (numbers (renewed (pos 1_080_000_001) true money)) [] []
 
+-- the same outflow, with a cost of 1 on each of two notes, which a fund counts and the account does not; and with one that check 6 refuses
+abbrev onLonger : (cost : ℤ) → CashAnswer
+onLonger cost = cashAnswer (numbers (longer (pos 1_080_000_001) true cost cost)) [] []
+
 -- one payment a year, the same in every year, and an outflow in year 2
 unfoldable pub paidYearly : (years : ℕ) (payment outflow : ℤ) → Plan
 paidYearly years payment outflow = record {
@@ -81,6 +85,8 @@ paidYearly years payment outflow = record {
   allocation = 1_000_000 ∷ replicate 15 0;
   opened = false;
   opening = replicate 30 (pos 0);
+  costed = false;
+  cost = replicate 16 (pos 0);
 }
 
 -- 1000000000 in each of two years, at 5 percent: 2050000000 less the outflow, with a bound of 4
@@ -101,6 +107,9 @@ callCases =
     ∷ record { given = pos (onRenewed (pos 1) .word); stated = pos solvent }
     ∷ record { given = onRenewed (pos 0) .account; stated = negsuc 0 }
     ∷ record { given = pos (onRenewed (pos 0) .word); stated = pos short }
+    ∷ record { given = onLonger (pos 1) .account; stated = negsuc 0 }
+    ∷ record { given = onLonger (pos 1) .bound; stated = pos 1 }
+    ∷ record { given = pos (onLonger (negsuc 0) .refusal); stated = pos 6 }
     ∷ record { given = pos (onTwoYears (pos 2_050_000_000) .word); stated = pos solvent }
     ∷ record { given = pos (onTwoYears (pos 2_050_000_001) .word); stated = pos close }
     ∷ record { given = pos (onTwoYears (pos 2_050_000_003) .word); stated = pos close }

@@ -15,6 +15,7 @@ ghost use Rattle.cash.specs.Account.{rateFor, next as nextOf, h as large
 ghost use Rattle.cash.specs.Theorem.{NearEveryYear, CashTrue};
 ghost use Rattle.cash.specs.Call.{noCash, inOrder, listsRefusal, cashReckoned, shapeRefusal, numbersRefusal, cashAt, cashAnswer};
 ghost use Rattle.cash.specs.Alike.{CashAlike};
+ghost use Rattle.cash.specs.Uncosted.{CashUncosted};
 ghost use Rattle.cash.specs.Arrays.{Padded, accountReckoned};
 
 // The account at the end of the last year, its bound and its word; zeros on a refusal.
@@ -241,12 +242,14 @@ fn cash_at(plan: Plan, lending: [i64; 30], borrowing: [i64; 30]) -> CashAnswer
 }
 
 // The cash account of the plan's allocation at the end of year N, its bound and its word: what is left over is lent and what is missing is
-// borrowed, at the rates of years 2 to N, of which each list has N - 1. Zeros on a refusal: 3, 5 to 9, 11, 13 or 14.
+// borrowed, at the rates of years 2 to N, of which each list has N - 1. What is left of the notes at the horizon is not counted. Zeros on a
+// refusal: 3, 5 to 9, 11, 13 or 14.
 pub fn cash(plan: Plan, lending: &[i32], borrowing: &[i32]) -> CashAnswer
     ensures is { λ s. ⌜ s ≡ cashAnswer (numbers plan) (now (lending .entry)) (now (borrowing .entry)) ⌝ }
     ensures near { λ s. ⌜ CashTrue (numbers plan) (now (lending .entry)) (now (borrowing .entry)) s ⌝ }
     ensures theorem { λ _. ⌜ NearEveryYear ⌝ }
     ensures alike { λ _. ⌜ CashAlike (held plan) (now (lending .entry)) (now (borrowing .entry)) ⌝ }
+    ensures uncosted { λ _. ⌜ CashUncosted (numbers plan) (now (lending .entry)) (now (borrowing .entry)) ⌝ }
 {
     let no = shape_refusal(plan, lending, borrowing);
     if no != 0 {

@@ -7,7 +7,7 @@ use native.Mathlib.Omega.{arith}
 use lib.Dec.{eqb}
 use Rattle.plan.specs.Held.{Held}
 use Rattle.plan.specs.Numbers.{Numbers, meaning}
-use Rattle.plan.specs.Refusal.{check, firstOf, answer, headOk, paymentsOk, paymentsFit, outflowsOk, openingOk, amountsOk, rolloverOk, untilsOk, ratesOk, ratesFit, allocationOk, headRefusal, amountsRefusal, ratesRefusal, allocationRefusal, refusalOf}
+use Rattle.plan.specs.Refusal.{check, firstOf, answer, headOk, paymentsOk, paymentsFit, outflowsOk, openingOk, costOk, amountsOk, rolloverOk, untilsOk, ratesOk, ratesFit, allocationOk, headRefusal, amountsRefusal, ratesRefusal, allocationRefusal, refusalOf}
 use Rattle.planner.specs.Verdict.{solvent}
 use Rattle.planner.specs.Alike.{meant}
 use Rattle.planner.specs.declared.VerdictAnswer.{VerdictAnswer}
@@ -29,7 +29,7 @@ not-13 false e = omega arith
 
 module _ (P : Numbers) (h : refusalOf P ≡ 13 → ⊥) where
   shares-13 : (shares : List ℕ) → refusalOf (allocated P shares) ≡ 13 → ⊥
-  unfolding refusalOf headRefusal amountsRefusal ratesRefusal allocationRefusal headOk paymentsOk paymentsFit outflowsOk openingOk amountsOk rolloverOk untilsOk ratesOk ratesFit
+  unfolding refusalOf headRefusal amountsRefusal ratesRefusal allocationRefusal headOk paymentsOk paymentsFit outflowsOk openingOk costOk amountsOk rolloverOk untilsOk ratesOk ratesFit
   shares-13 shares e = h (after-13 (headRefusal P) (amountsRefusal P) (ratesRefusal P) (allocationRefusal P) (allocationRefusal (allocated P shares)) (not-13 (allocationOk (allocated P shares))) e)
 
   solvent-meant : (shares : List ℕ) → solventWith P shares ≡ solventWith (meant P) shares

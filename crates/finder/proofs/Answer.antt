@@ -22,7 +22,7 @@ use Rattle.planner.specs.Verdict.{solvent, verdictAnswer}
 use Rattle.planner.proofs.Answers.{out-refused, out-accepted}
 use Rattle.finder.specs.declared.FindAnswer.{FindAnswer}
 use Rattle.finder.specs.Grid.{OnGrid, allocations}
-use Rattle.finder.specs.Find.{notFound, allocated, solventWith, firstThat, isAmong, partsTaken, findRefusal, findAnswer}
+use Rattle.finder.specs.Find.{notFound, withAllocation, allocated, solventWith, firstThat, isAmong, partsTaken, findRefusal, findAnswer}
 use Rattle.finder.specs.Claims.{Found, FindTrue}
 use Rattle.finder.specs.Alike.{FindAlike}
 use Rattle.finder.specs.declared.Split.{Split}
@@ -119,7 +119,7 @@ module _ (P : Numbers) (D : ℕ) (ok : Accepted P) (taken : isAmong partsTaken D
 solvent-cong : (P : Numbers) (a b : List ℕ) → ((j : ℕ) → j < P .instruments → getD a j 0 ≡ getD b j 0) → solventWith P a ≡ solventWith P b
 unfolding solventWith
 solvent-cong P a b h =
-    ap (λ (p : ℕ → ℕ). eqb (verdictAnswer (record { years = P .years; instruments = P .instruments; terms = P .terms; patterns = P .patterns; a = P .a; o = P .o; r = P .r; i = P .i; p = p; b = P .b; T = P .T }) .word) solvent)
+    ap (λ (p : ℕ → ℕ). eqb (verdictAnswer (withAllocation P p) .word) solvent)
     (fun-ext (entry-cong 0 (P .instruments) (λ j. getD a j 0) (λ j. getD b j 0) h))
 
 solvent-yes : (P : Numbers) (shares : List ℕ) → verdictAnswer (allocated P shares) .word ≡ solvent → solventWith P shares ≡ true

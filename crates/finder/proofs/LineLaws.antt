@@ -11,7 +11,7 @@ use Rattle.whole.specs.Test.{both}
 use Rattle.whole.proofs.Test.{both-second, both-not, picked-yes, picked-no, picked-is, lt-true, lt-false, le-leZ, lt-leZ}
 use Rattle.reckoning.specs.declared.Reckoned.{Reckoned}
 use Rattle.plan.specs.declared.Shape.{Shape}
-use Rattle.planner.specs.Calls.{Shared, boundAt, coefficientsFit, constantFits, constantAt, flowFits, fundAt, flowOf, flowReckoned, formReckoned}
+use Rattle.planner.specs.Calls.{Shared, boundAt, coefficientsFit, constantFits, constantAt, flowFits, fundAt, flowOf, leftOf, flowReckoned, formReckoned}
 use Rattle.planner.specs.declared.FormAnswer.{FormAnswer}
 use Rattle.planner.proofs.Answers.{reckoned-refused, reckoned-fits, reckoned-is}
 use Rattle.finder.specs.Lines.{lineFrom, overAll, lineOf, fundPasses, belowNone, looked, passes}
@@ -46,23 +46,23 @@ module _ (S : Shared) (i : ℕ → ℤ) {f : FormAnswer} (e : f ≡ formReckoned
 module _ (S : Shared) (i : ℕ → ℤ) {c : Reckoned} (e : c ≡ flowReckoned S i) where
   pub fund-refused : (c .refusal ≡ 0 → ⊥) → fundPasses S i ≡ false
   unfolding fundPasses flowFits
-  fund-refused h = rw (reckoned-refused (S .r) i (flowOf S) (S .years) e h)
+  fund-refused h = rw (reckoned-refused (S .r) i (flowOf S) (S .years) (leftOf S) e h)
 
   module _ (none : c .refusal ≡ 0) where
     pub fund-below : ltZ (c .fund) (pos 0) ≡ true → fundPasses S i ≡ false
     unfolding fundPasses fundAt
-    fund-below h = rw (← reckoned-is (S .r) i (flowOf S) (S .years) e none, lt-leZ (pos 0) (c .fund) (lt-true _ _ h)) (both-not (flowFits S i))
+    fund-below h = rw (← reckoned-is (S .r) i (flowOf S) (S .years) (leftOf S) e none, lt-leZ (pos 0) (c .fund) (lt-true _ _ h)) (both-not (flowFits S i))
 
     pub fund-passes : ltZ (c .fund) (pos 0) ≡ false → fundPasses S i ≡ true
     unfolding fundPasses flowFits fundAt
-    fund-passes h = rw (reckoned-fits (S .r) i (flowOf S) (S .years) e none, ← reckoned-is (S .r) i (flowOf S) (S .years) e none) (le-leZ (pos 0) (c .fund) (lt-false _ _ h))
+    fund-passes h = rw (reckoned-fits (S .r) i (flowOf S) (S .years) (leftOf S) e none, ← reckoned-is (S .r) i (flowOf S) (S .years) (leftOf S) e none) (le-leZ (pos 0) (c .fund) (lt-false _ _ h))
 
 -- ---- shares that lie below no line are looked at, and no others
-module _ (s : Shape) (lines rates payments : List (List ℤ)) (constant rollover : List ℤ) (shares : List ℕ) {b : Bool} (e : b ≡ belowNone (s .patterns) lines shares) where
-  pub passes-not : b ≡ false → false ≡ passes s lines rates payments constant rollover shares
+module _ (s : Shape) (lines rates payments : List (List ℤ)) (constant rollover cost : List ℤ) (shares : List ℕ) {b : Bool} (e : b ≡ belowNone (s .patterns) lines shares) where
+  pub passes-not : b ≡ false → false ≡ passes s lines rates payments constant rollover cost shares
   unfolding passes
   passes-not f = rw (sym e ∙ f)
 
-  pub passes-look : b ≡ true → {good : Bool} → good ≡ looked s rates payments constant rollover shares → good ≡ passes s lines rates payments constant rollover shares
+  pub passes-look : b ≡ true → {good : Bool} → good ≡ looked s rates payments constant rollover cost shares → good ≡ passes s lines rates payments constant rollover cost shares
   unfolding passes
   passes-look f {good} g = rw (sym e ∙ f) g

@@ -6,7 +6,7 @@ use mathlib.Core.Logic.{⊎-elim}
 use Prim.Native.Nat.{ℕ, zero, suc, _+_, _-_, _*_, _^_, _≤_, _<_}
 use native.Mathlib.Omega.{arith}
 use lib.ListN.{getD, replicate, getD-replicate}
-use lib.IntN.{ℤ, pos, negsuc, natAbs, _+ℤ_, _*ℤ_, zero-*ℤ}
+use lib.IntN.{ℤ, pos, negsuc, natAbs, _+ℤ_, _*ℤ_, +ℤ-idr, zero-*ℤ}
 use lib.Signed.{leZ, _≤ℤ_, _<ℤ_, clashℤ}
 use Rattle.whole.specs.Range.{million, limit, Within}
 use Rattle.whole.specs.Floor.{floor}
@@ -17,8 +17,9 @@ use Rattle.whole.proofs.Laws.{ℕ-cases, ℤ-cases}
 use Rattle.whole.proofs.Range.{within-more, within-add, within-mul, within-pos, within-abs}
 use Rattle.whole.proofs.Floor.{is-floor}
 use Rattle.whole.proofs.Sum.{sum-split, sum-zeros, Σℤ-from, largest-least}
-use Rattle.whole.proofs.Test.{both-first, both-second, both-not, all-at, le-true, le-leZ, between-fact}
+use Rattle.whole.proofs.Test.{both-first, both-second, both-not, all-at, le-true, le-leZ, between-fact, pick-few}
 use Rattle.whole.proofs.Table.{table-at, table-past}
+use Rattle.reckoning.specs.Reckoning.{fund}
 use Rattle.reckoning.specs.Bound.{h, value}
 use Rattle.reckoning.specs.Arrays.{alphasFit, fundFits}
 use Rattle.reckoning.proofs.BoundLaws.{B-most}
@@ -75,7 +76,7 @@ module _ (S : Shared) (i : ℕ → ℤ) where
 
   pub constant-within : constantFits S i ≡ true → Within limit (constantAt S i)
   unfolding constantAt constantFits fundFits
-  constant-within fits = between-fact _ _ _ (both-second (alphasFit (S .r) i (S .constantFlow) (S .years)) _ fits)
+  constant-within fits = rw (+ℤ-idr (fund (S .r) i (S .years) (S .constantFlow))) at (between-fact _ _ _ (both-second (alphasFit (S .r) i (S .constantFlow) (S .years)) _ fits))
 
 -- ---- pattern t of a plan of at most four instruments, and the line that it has
 module _ (plan : Plan) (ok : Accepted (numbers plan)) (t : ℕ) where
@@ -97,9 +98,13 @@ module _ (plan : Plan) (ok : Accepted (numbers plan)) (t : ℕ) where
   -- B of thirty years
   bound-within : Within 4_294_967_296 (pos (boundAt S i))
   unfolding boundAt h
-  bound-within = within-pos (B-most (h i (plan .years)) (plan .years)
-      (largest-least (plan .years - 1) (λ l. natAbs (i (2 + l))) million (λ l b. within-abs {z = i (2 + l)} (omega (whole, ok .rates t (2 + l)))))
-      (ok .head .years-some) (ok .head .years-few))
+  bound-within = within-pos (omega (
+    arith,
+    pick-few (plan .costed) 1,
+    B-most (h i (plan .years)) (plan .years)
+        (largest-least (plan .years - 1) (λ l. natAbs (i (2 + l))) million (λ l b. within-abs {z = i (2 + l)} (omega (whole, ok .rates t (2 + l)))))
+        (ok .head .years-some) (ok .head .years-few),
+  ))
 
   module _ (few : n ≤ 4) where
     form-at : (j : ℕ) → j < n → getD formLine j (pos 0) ≡ coefficientAt S i (1 + j)

@@ -14,7 +14,7 @@ use Rattle.whole.proofs.Sum.{sum-cong, sumℕ-cong}
 use Rattle.whole.proofs.Test.{all-cong}
 use Rattle.whole.proofs.Table.{table-at}
 use Rattle.reckoning.specs.Arrays.{ratesOf, Rates}
-use Rattle.plan.specs.Held.{shapeOf, instrumentsHeld, outflowsHeld, rolloverHeld, patternsHeld, allocationHeld, openingHeld}
+use Rattle.plan.specs.Held.{shapeOf, instrumentsHeld, outflowsHeld, rolloverHeld, patternsHeld, allocationHeld, openingHeld, costHeld}
 use Rattle.plan.specs.Numbers.{numbers}
 use Rattle.plan.specs.Refusal.{Accepted}
 use Rattle.plan.specs.declared.Plan.{Plan}
@@ -41,10 +41,11 @@ module _ (plan : Plan) (ok : Accepted (numbers plan)) {rates : List (List ℤ)}
   pub rates-each : (t : ℕ) → t < plan .patterns → Rates (getD rates t [])
   rates-each t l = rates-ready plan ok (1 + t) (row-at t l)
 
-module _ (plan : Plan) (ok : Accepted (numbers plan)) (few : plan .instruments ≤ 4) {lines rates payments : List (List ℤ)} {constant rollover : List ℤ} {c : Common}
+module _ (plan : Plan) (ok : Accepted (numbers plan)) (few : plan .instruments ≤ 4) {lines rates payments : List (List ℤ)} {constant rollover cost : List ℤ} {c : Common}
     (common-is : c ≡ commonOf plan) (payments-are : payments ≡ paymentsRows (numbers plan))
     (rows-are : rates ≡ table 64 (plan .patterns) (λ t. ratesArray (numbers plan) (1 + t)) (replicate 30 (pos 0)))
-    (lines-are : lines ≡ linesOf (sharedIn c payments) (plan .patterns) rates) (constant-is : constant ≡ constantArray (numbers plan)) (rollover-is : rollover ≡ rolloverArray (numbers plan)) where
+    (lines-are : lines ≡ linesOf (sharedIn c payments) (plan .patterns) rates) (constant-is : constant ≡ constantArray (numbers plan)) (rollover-is : rollover ≡ rolloverArray (numbers plan))
+    (cost-is : cost ≡ plan .cost) where
   abbrev m : ℕ
   m = plan .patterns
 
@@ -62,11 +63,11 @@ module _ (plan : Plan) (ok : Accepted (numbers plan)) (few : plan .instruments �
   -- ---- with other shares, four of them: what all patterns share is that of the plan with them
   module _ (shares : List ℕ) where
     abbrev common : Common
-    common = commonWith (shapeOf plan) constant rollover shares
+    common = commonWith (shapeOf plan) constant rollover cost shares
 
     common-with : common ≡ commonOf (replaced plan (wideOf shares))
     unfolding rolloverArray constantArray commonOf outflowsHeld rolloverHeld openingHeld
-    common-with = rw (constant-is, shares-are plan ok rollover-is, rollover-is)
+    common-with = rw (constant-is, shares-are plan ok rollover-is, rollover-is, cost-is)
 
     payments-with : payments ≡ paymentsRows (numbers (replaced plan (wideOf shares)))
     unfolding paymentsRow paymentsRows instrumentsHeld
@@ -92,14 +93,14 @@ module _ (plan : Plan) (ok : Accepted (numbers plan)) (few : plan .instruments �
       -- no line sees the allocation: those of the plan with these shares are the plan's own
       looked-with : (t : ℕ) → both (leZ (pos 0) (heightOver (lineOf (sharedOf (numbers plan)) (rateIn t)) (wideOf shares))) (fundPasses S (rateIn t))
           ≡ both (rowFits S (rateIn t)) (leZ (pos 0) (fundAt S (rateIn t)))
-      unfolding lineOf boundAt coefficientAt constantAt coefficientsFit constantFits coefficientsAt instrumentsHeld outflowsHeld rolloverHeld patternsHeld allocationHeld openingHeld
+      unfolding lineOf boundAt coefficientAt constantAt coefficientsFit constantFits coefficientsAt instrumentsHeld outflowsHeld rolloverHeld patternsHeld allocationHeld openingHeld costHeld
       looked-with t = looked-at (replaced plan (wideOf shares)) replaced-ok t few
 
       height-with : (line : List ℤ) → heightOver line shares ≡ heightOver line (wideOf shares)
       height-with line = ap (λ (z : ℤ). z +ℤ getD line 4 (pos 0))
           (sum-cong 4 _ _ (λ j l. ap (λ (p : ℕ). getD line j (pos 0) *ℤ pos p) (wide-at shares j l)))
 
-      pub passes-is : passes (shapeOf plan) lines rates payments constant rollover shares ≡ solventWith (numbers plan) (wideOf shares)
+      pub passes-is : passes (shapeOf plan) lines rates payments constant rollover cost shares ≡ solventWith (numbers plan) (wideOf shares)
       unfolding passes looked belowNone
       passes-is =
           ap₂ both
@@ -109,7 +110,7 @@ module _ (plan : Plan) (ok : Accepted (numbers plan)) (few : plan .instruments �
           ∙ all-cong m _ _ (λ t l. looked-with (1 + t))
           ∙ sym (solvent-is plan ok (wideOf shares) wide-whole)
 
-  pub searchable : Searchable (shapeOf plan) lines rates payments constant rollover
+  pub searchable : Searchable (shapeOf plan) lines rates payments constant rollover cost
   searchable = record {
     instruments-few = few;
     line = λ t l. rw (line-at t l) (line-sized plan ok (1 + t) few);

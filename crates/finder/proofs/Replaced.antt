@@ -15,7 +15,7 @@ use Rattle.whole.specs.Test.{pick, both, all}
 use Rattle.whole.proofs.Sum.{Σℕ-from}
 use Rattle.whole.proofs.Test.{both-not, all-at, all-cong}
 use Rattle.whole.proofs.Entry.{entry-at}
-use Rattle.plan.specs.Held.{instrumentsHeld, outflowsHeld, rolloverHeld, patternsHeld, allocationHeld, openingHeld}
+use Rattle.plan.specs.Held.{instrumentsHeld, outflowsHeld, rolloverHeld, patternsHeld, allocationHeld, openingHeld, costHeld}
 use Rattle.plan.specs.Numbers.{Numbers, numbers}
 use Rattle.plan.specs.Refusal.{check, answer, Accepted}
 use Rattle.plan.specs.declared.Plan.{Plan}
@@ -42,10 +42,12 @@ replaced plan shares = record {
   allocation = shares;
   opening = plan .opening;
   opened = plan .opened;
+  cost = plan .cost;
+  costed = plan .costed;
 }
 
 pub replaced-numbers : (plan : Plan) (shares : List ℕ) → numbers (replaced plan shares) ≡ allocated (numbers plan) shares
-unfolding instrumentsHeld outflowsHeld rolloverHeld patternsHeld allocationHeld openingHeld
+unfolding instrumentsHeld outflowsHeld rolloverHeld patternsHeld allocationHeld openingHeld costHeld
 replaced-numbers plan shares = refl
 
 -- an accepted plan is accepted with other shares too, if they come to 1,000,000
@@ -67,6 +69,8 @@ accepted-with plan ok shares whole =
       payments = ok .payments;
       outflows = ok .outflows;
       opening = ok .opening;
+      cost = ok .cost;
+      uncosted = ok .uncosted;
       rollover = ok .rollover;
       rollover-past = ok .rollover-past;
       until-some = ok .until-some;

@@ -1,5 +1,5 @@
 -- Worked cases of the search: what the definitions give beside what they are to give.
-use mathlib.Core.Bool.{true}
+use mathlib.Core.Bool.{true, false}
 use mathlib.Core.List.{List, [], _∷_, _++_}
 use Prim.Native.Nat.{ℕ}
 use lib.IntN.{ℤ, pos}
@@ -8,7 +8,7 @@ use Rattle.whole.specs.Case.{Case}
 use Rattle.whole.specs.Test.{pick}
 use Rattle.plan.specs.Held.{noInstrument, noPattern}
 use Rattle.plan.specs.Numbers.{Numbers, numbers}
-use Rattle.plan.specs.Case.{listed, planL, oneYear}
+use Rattle.plan.specs.Case.{listed, planL, oneYear, longer}
 use Rattle.plan.specs.declared.Plan.{Plan}
 use Rattle.finder.specs.declared.FindAnswer.{FindAnswer}
 use Rattle.finder.specs.Grid.{splits, allocations}
@@ -34,7 +34,8 @@ gridCases =
 
 -- L with a share s on its first note has a fund of 4800000 - 20000000 s in its first pattern, and more in its second: it is solvent up to a
 -- share of 0.24. In five parts the first such has one part of it, in four it has none. In one year nothing but the whole note can be
--- tried: an outflow that is paid to the last amount is solvent, and one more is close, which is not.
+-- tried: an outflow that is paid to the last amount is solvent, and one more is close, which is not. Of two notes that pay as much, with a
+-- cost of 1 on the second, half of it does not make up that amount, and all of it does, where it is held.
 abbrev onL : (parts : ℕ) → FindAnswer
 onL = findAnswer (numbers planL)
 
@@ -48,6 +49,8 @@ findCases =
     ∷ record { given = shareIn (findAnswer (numbers (oneYear (pos 1_080_000_000))) 40) 0; stated = pos 1_000_000 }
     ∷ record { given = foundIn (findAnswer (numbers (oneYear (pos 1_080_000_001))) 40); stated = pos 0 }
     ∷ record { given = shareIn (findAnswer (numbers (oneYear (pos 1_080_000_001))) 40) 0; stated = pos 0 }
+    ∷ record { given = shareIn (findAnswer (numbers (longer (pos 1_080_000_001) true (pos 0) (pos 1))) 2) 1; stated = pos 1_000_000 }
+    ∷ record { given = foundIn (findAnswer (numbers (longer (pos 1_080_000_001) false (pos 0) (pos 1))) 2); stated = pos 0 }
     ∷ []
 
 -- two notes that pay the same in each of some years, or nothing, at 20 percent, with so much already invested; 20000000000 a year are
@@ -65,6 +68,8 @@ paidYearly years first second money = record {
   allocation = 1_000_000 ∷ replicate 15 0;
   opened = true;
   opening = replicate 30 money;
+  costed = false;
+  cost = replicate 16 (pos 0);
 }
 
 -- check 11 refuses the plan's own allocation, and the other one is found; where it refuses a note by itself none is, and the call is not
@@ -94,6 +99,8 @@ among instruments P = record {
   p = P .p;
   b = P .b;
   T = P .T;
+  cost = P .cost;
+  costed = P .costed;
 }
 
 -- the refusal of a plan of one instrument in so many parts

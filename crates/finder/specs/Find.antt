@@ -16,9 +16,9 @@ use Rattle.finder.specs.Grid.{allocations}
 abbrev pub notFound : ℕ → FindAnswer
 notFound number = record { refusal = number; found = false; shares = replicate 16 0 }
 
--- the plan's numbers with other shares in the place of its allocation
-abbrev pub allocated : Numbers → List ℕ → Numbers
-allocated P shares = record {
+-- the plan's numbers with another allocation in the place of its own, and with that of some shares
+abbrev pub withAllocation : Numbers → (p : ℕ → ℕ) → Numbers
+withAllocation P p = record {
   years = P .years;
   instruments = P .instruments;
   terms = P .terms;
@@ -27,10 +27,15 @@ allocated P shares = record {
   o = P .o;
   r = P .r;
   i = P .i;
-  p = entry 0 (P .instruments) (λ j. getD shares j 0);
+  p = p;
   b = P .b;
   T = P .T;
+  cost = P .cost;
+  costed = P .costed;
 }
+
+abbrev pub allocated : Numbers → List ℕ → Numbers
+allocated P shares = withAllocation P (entry 0 (P .instruments) (λ j. getD shares j 0))
 
 -- the verdict on the plan with these shares is solvent; one that is refused has no word, so it is not
 unfoldable pub solventWith : Numbers → List ℕ → Bool

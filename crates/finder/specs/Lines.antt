@@ -54,14 +54,14 @@ pub record Line (line : List ℤ) : Type 0 where
   pub coefficient : (j : ℕ) → j < 4 → Within limit (getD line j (pos 0))
   pub constant : Within (2 * (limit * million)) (getD line 4 (pos 0))
 
--- ---- the search's arrays: the rates, the payments, the flow of Q and the rollover, and the lines
+-- ---- the search's arrays: the rates, the payments, the flow of Q, the rollover and the costs, and the lines
 -- four shares in the array of an allocation
 unfoldable pub wideOf : List ℕ → List ℕ
 wideOf shares = table 16 4 (λ j. getD shares j 0) 0
 
 -- what all patterns share, with these shares
-abbrev pub commonWith : (s : Shape) (constant rollover : List ℤ) (shares : List ℕ) → Common
-commonWith s constant rollover shares = record {
+abbrev pub commonWith : (s : Shape) (constant rollover cost : List ℤ) (shares : List ℕ) → Common
+commonWith s constant rollover cost shares = record {
   years = s .years;
   instruments = s .instruments;
   terms = s .terms;
@@ -69,25 +69,27 @@ commonWith s constant rollover shares = record {
   rollover = rollover;
   weights = weightsOf (sharesOf rollover);
   constantflow = constant;
+  cost = cost;
+  costed = s .costed;
 }
 
-module _ (s : Shape) (rates payments : List (List ℤ)) (constant rollover : List ℤ) where
+module _ (s : Shape) (rates payments : List (List ℤ)) (constant rollover cost : List ℤ) where
   -- they pass in every pattern
   unfoldable pub looked : (shares : List ℕ) → Bool
-  looked shares = all (s .patterns) (λ t. fundPasses (sharedIn (commonWith s constant rollover shares) payments) (ratesOf (getD rates t [])))
+  looked shares = all (s .patterns) (λ t. fundPasses (sharedIn (commonWith s constant rollover cost shares) payments) (ratesOf (getD rates t [])))
 
   -- shares of 1,000,000 together can be looked at
   pub record Looks : Type 0 where
     pub patterns-few : s .patterns ≤ 64
     pub rate : (t : ℕ) → t < s .patterns → Rates (getD rates t [])
-    pub prepared : (shares : List ℕ) → sumℕ (s .instruments) (λ j. getD shares j 0) ≡ million → Prepared (commonWith s constant rollover shares) payments
+    pub prepared : (shares : List ℕ) → sumℕ (s .instruments) (λ j. getD shares j 0) ≡ million → Prepared (commonWith s constant rollover cost shares) payments
 
-module _ (s : Shape) (lines rates payments : List (List ℤ)) (constant rollover : List ℤ) where
+module _ (s : Shape) (lines rates payments : List (List ℤ)) (constant rollover cost : List ℤ) where
   -- the shares lie below no line, and pass in every pattern
   unfoldable pub passes : (shares : List ℕ) → Bool
-  passes shares = both (belowNone (s .patterns) lines shares) (looked s rates payments constant rollover shares)
+  passes shares = both (belowNone (s .patterns) lines shares) (looked s rates payments constant rollover cost shares)
 
   pub record Searchable : Type 0 where
     pub instruments-few : s .instruments ≤ 4
     pub line : (t : ℕ) → t < s .patterns → Line (getD lines t [])
-    pub looks : Looks s rates payments constant rollover
+    pub looks : Looks s rates payments constant rollover cost

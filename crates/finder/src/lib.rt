@@ -63,7 +63,8 @@ fn line_of(common: Common, payments: &[[i64; 30]; 16], i: &[i64; 30]) -> [i64; 5
         return [0, 0, 0, 0, -1];
     }
     let years = common.years;
-    let bound = reckoning::bound(i, years);
+    let costed = common.costed;
+    let bound = planner::bound_at(i, years, costed);
     let q = f.constant;
     let k = f.coefficients;
     [k[0], k[1], k[2], k[3], 1_000_000 * (q + 2 * bound)]
@@ -128,8 +129,9 @@ fn funds_pass(common: Common, payments: &[[i64; 30]; 16], rates: &[[i64; 30]; 64
     ensures { λ b. ⌜ b ≡ all m (λ t. fundPasses (sharedIn common (now (payments .entry))) (ratesOf (getD (now (rates .entry)) t []))) ⌝ }
 {
     let flow = planner::flow_of(common, payments);
+    let left = planner::left_of(common);
     for t in 0..m {
-        let c = planner::fund_at(common, &flow, &rates[t]);
+        let c = planner::fund_at(common, &flow, left, &rates[t]);
         let no = c.refusal;
         if no != 0 {
             return false;
@@ -160,11 +162,12 @@ fn look(
     payments: &[[i64; 30]; 16],
     constant: &[i64; 30],
     rollover: &[i64; 30],
+    cost: &[i64; 16],
     shares: [u32; 4],
 ) -> bool
-    requires { ⌜ Looks shape (now rates) (now payments) (now constant) (now rollover) ⌝ }
+    requires { ⌜ Looks shape (now rates) (now payments) (now constant) (now rollover) (now cost) ⌝ }
     requires { ⌜ sumℕ (shape .instruments) (λ j. getD shares j 0) ≡ million ⌝ }
-    ensures { λ b. ⌜ b ≡ looked shape (now (rates .entry)) (now (payments .entry)) (now (constant .entry)) (now (rollover .entry)) shares ⌝ }
+    ensures { λ b. ⌜ b ≡ looked shape (now (rates .entry)) (now (payments .entry)) (now (constant .entry)) (now (rollover .entry)) (now (cost .entry)) shares ⌝ }
 {
     let r = *rollover;
     let w = reckoning::weights(r, shape.terms);
@@ -177,6 +180,8 @@ fn look(
         rollover: r,
         weights: w,
         constantflow: *constant,
+        cost: *cost,
+        costed: shape.costed,
     };
     funds_pass(common, payments, rates, shape.patterns)
 }
@@ -210,15 +215,16 @@ fn search_from(
     payments: &[[i64; 30]; 16],
     constant: &[i64; 30],
     rollover: &[i64; 30],
+    cost: &[i64; 16],
     shares: [u32; 4],
     at: usize,
     others: usize,
     parts: u32,
     unit: u32,
 ) -> Split
-    requires { ⌜ Searchable shape (now lines) (now rates) (now payments) (now constant) (now rollover) ⌝ }
+    requires { ⌜ Searchable shape (now lines) (now rates) (now payments) (now constant) (now rollover) (now cost) ⌝ }
     requires { ⌜ Placing (shape .instruments) shares at others parts unit ⌝ }
-    ensures { λ s. ⌜ Tells s (firstThat (passes shape (now (lines .entry)) (now (rates .entry)) (now (payments .entry)) (now (constant .entry)) (now (rollover .entry)))
+    ensures { λ s. ⌜ Tells s (firstThat (passes shape (now (lines .entry)) (now (rates .entry)) (now (payments .entry)) (now (constant .entry)) (now (rollover .entry)) (now (cost .entry)))
         (placements unit shares at others parts)) ⌝ }
 {
     if others == 0 {
@@ -229,7 +235,7 @@ fn search_from(
                 shares: last,
             };
         }
-        let good = look(shape, rates, payments, constant, rollover, last);
+        let good = look(shape, rates, payments, constant, rollover, cost, last);
         return Split {
             found: good,
             shares: last,
@@ -246,6 +252,7 @@ fn search_from(
             payments,
             constant,
             rollover,
+            cost,
             next,
             at + 1,
             others - 1,
@@ -308,6 +315,7 @@ fn search(plan: Plan, parts: u32) -> FindAnswer
     put_rates(plan, &mut rates);
     let lines = lines_of(common, &payments, &rates, plan.patterns);
     let r = common.rollover;
+    let cost = common.cost;
     let none = [0u32; 4];
     let others = plan.instruments - 1;
     let c = search_from(
@@ -317,6 +325,7 @@ fn search(plan: Plan, parts: u32) -> FindAnswer
         &payments,
         &constant,
         &r,
+        &cost,
         none,
         0,
         others,

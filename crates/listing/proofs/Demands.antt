@@ -9,11 +9,11 @@ use Rattle.plan.specs.Refusal.{refusalOf}
 use Rattle.plan.proofs.Checks.{answer-accepted}
 use Rattle.planner.specs.Verdict.{judgementOf}
 use Rattle.planner.specs.Alike.{meant}
-use Rattle.planner.proofs.Plain.{plain-flow, plain-held}
+use Rattle.planner.proofs.Plain.{plain-flow, plain-horizon, plain-held}
 use Rattle.planner.proofs.Alike.{alike}
 use Rattle.planfile.specs.Records.{heldIn}
 use Rattle.planfile.specs.Read.{numbersIn, readAnswer}
-use Rattle.planfile.proofs.Answers.{unopened-none, plain-unopened, read-numbers, plan-passes}
+use Rattle.planfile.proofs.Answers.{unopened-none, uncosted-none, uncosted-in, plain-unopened, plain-uncosted, read-numbers, plan-passes}
 use Rattle.planfile.proofs.Demand2.{file-read}
 use Rattle.planfile.proofs.Plain.{plain-file, plain-kinds}
 use Rattle.listing.specs.Text.{refusedText, judgementText, planText, textOf}
@@ -47,8 +47,9 @@ demands {s} b = record {
   exact = of-file s;
   plain = plain-file s;
   plain-flow = λ e. plain-flow (numbersIn s) (unopened-none s e);
+  plain-horizon = λ e. plain-horizon (numbersIn s) (uncosted-in s e) (uncosted-none s e);
   plain-kinds = plain-kinds s;
-  plain-numbers = λ e. plain-held (heldIn s) e (unopened-none s (plain-unopened s e));
+  plain-numbers = λ e. plain-held (heldIn s) e (unopened-none s (plain-unopened s e)) (uncosted-none s (plain-uncosted s e));
   alike = alike (heldIn s);
   printed-alike = text-alike s;
 }

@@ -12,15 +12,15 @@ use Rattle.whole.specs.Course.{course, history}
 use Rattle.whole.specs.Entry.{nth, cut, entry}
 use Rattle.whole.specs.Table.{table}
 use Rattle.whole.specs.Test.{all, isBetween}
-use Rattle.reckoning.specs.Reckoning.{w, paid, flow, sent, alpha-step, alpha, fund}
+use Rattle.reckoning.specs.Reckoning.{w, paid, left, flow, sent, alpha-step, alpha, fund}
 use Rattle.reckoning.specs.Bound.{h, ceiling, G, B}
 use Rattle.reckoning.specs.Arrays.{alphasFit, fundFits}
-use Rattle.plan.specs.Held.{instrumentsHeld, outflowsHeld, rolloverHeld, patternsHeld, allocationHeld, openingHeld}
+use Rattle.plan.specs.Held.{instrumentsHeld, outflowsHeld, rolloverHeld, patternsHeld, allocationHeld, openingHeld, costHeld}
 use Rattle.plan.specs.Numbers.{numbers}
-use Rattle.plan.specs.Refusal.{answer, headOk, paymentsFit, paymentsOk, outflowsOk, openingOk, amountsOk, rolloverOk, untilsOk, ratesFit, ratesOk, allocationOk, headRefusal, amountsRefusal, ratesRefusal, allocationRefusal, refusalOf}
+use Rattle.plan.specs.Refusal.{answer, headOk, paymentsFit, paymentsOk, outflowsOk, openingOk, costOk, amountsOk, rolloverOk, untilsOk, ratesFit, ratesOk, allocationOk, headRefusal, amountsRefusal, ratesRefusal, allocationRefusal, refusalOf}
 use Rattle.plan.specs.declared.Plan.{Plan}
 use Rattle.plan.proofs.Checks.{answer-accepted}
-use Rattle.planner.specs.Calls.{flowOf, fundAt, boundAt, coefficientAt, constantAt, flowFits, coefficientsFit, constantFits, coefficientsAt, boundOf}
+use Rattle.planner.specs.Calls.{flowOf, exactLeftOf, leftOf, fundAt, boundAt, coefficientAt, constantAt, flowFits, coefficientsFit, constantFits, coefficientsAt, boundOf}
 use Rattle.planner.specs.Verdict.{
   wordOf,
   bitsOf,
@@ -91,8 +91,8 @@ text-L = refl
 pub judged-L : judgementOf (numbers planL) ≡ judgementL
 unfolding judgementOf verdictAnswer verdictRefusal rowsOf rowOf rowAt rowFits fundOf patternWord wordAt shortBits planWord wordOf bitsOf
     flowOf fundAt boundAt coefficientAt constantAt flowFits coefficientsFit constantFits coefficientsAt boundOf
-    refusalOf headRefusal amountsRefusal ratesRefusal allocationRefusal headOk paymentsOk paymentsFit outflowsOk openingOk amountsOk rolloverOk untilsOk ratesOk ratesFit allocationOk
-    instrumentsHeld outflowsHeld rolloverHeld patternsHeld allocationHeld openingHeld
+    refusalOf headRefusal amountsRefusal ratesRefusal allocationRefusal headOk paymentsOk paymentsFit outflowsOk openingOk costOk amountsOk rolloverOk untilsOk ratesOk ratesFit allocationOk
+    instrumentsHeld outflowsHeld rolloverHeld patternsHeld allocationHeld openingHeld costHeld exactLeftOf leftOf left
     fundFits alphasFit fund alpha alpha-step sent flow paid w h ceiling G B floor shareOf sum sumℕ largest course history nth cut entry table all isBetween
     planL nearL judgementL rowL
 judged-L = refl

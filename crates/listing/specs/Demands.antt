@@ -4,7 +4,7 @@ use mathlib.Core.Bool.{false}
 use mathlib.Core.List.{List}
 use Prim.Native.Nat.{ℕ}
 use Rattle.plan.specs.Held.{PlainHeld}
-use Rattle.planner.specs.Plain.{PlainFlow, Plain}
+use Rattle.planner.specs.Plain.{PlainFlow, PlainHorizon, Plain}
 use Rattle.planner.specs.Alike.{meant, Alike}
 use Rattle.planfile.specs.Checks.{shapeIn}
 use Rattle.planfile.specs.Records.{heldIn}
@@ -18,9 +18,11 @@ use Rattle.listing.specs.Text.{textOf}
 pub record Demands (s : List ℕ) : Type 0 where
   pub kept : readAnswer s .refusal ≡ 0 → OneFile s (readAnswer s .plan)
   pub exact : OfFile s
-  -- where no kind 7 stands where it may, it has document 01's groups and flows
-  pub plain : shapeIn s .opened ≡ false → PlainFile s
+  -- where no kind 7 stands where it may, it has document 01's flows, where no kind 9 does, its funds, K, B and H, and where neither does, its
+  -- groups
+  pub plain : shapeIn s .opened ≡ false → shapeIn s .costed ≡ false → PlainFile s
   pub plain-flow : shapeIn s .opened ≡ false → PlainFlow (numbersIn s)
+  pub plain-horizon : shapeIn s .costed ≡ false → PlainHorizon (numbersIn s)
   -- where no pattern is a slope either, it is one of document 01, in its kinds and in what they mean
   pub plain-kinds : PlainHeld (heldIn s) → PlainKinds s
   pub plain-numbers : PlainHeld (heldIn s) → Plain (heldIn s)

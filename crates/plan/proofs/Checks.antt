@@ -13,11 +13,12 @@ use Rattle.whole.specs.Sum.{sumℕ}
 use Rattle.whole.specs.Test.{pick, all, isFrom, isBetween, isWithin}
 use Rattle.whole.specs.Table.{table}
 use Rattle.whole.proofs.Bridge.{whole}
+use Rattle.whole.specs.Entry.{entry}
 use Rattle.whole.proofs.Entry.{entry-each, entry-own}
 use Rattle.whole.proofs.Table.{table-at}
 use Rattle.whole.proofs.Sum.{Σℕ-from}
 use Rattle.whole.proofs.Test.{both-first, both-second, all-yes, all-at, all-cong, between-fact, between-yes, from-low, from-high, from-yes, pick-few}
-use Rattle.plan.specs.Held.{Held, openings, shapeOf, instrumentHeld, patternHeld, missingPattern, outflowsHeld, openingHeld}
+use Rattle.plan.specs.Held.{Held, instrumentHeld, patternHeld, missingPattern, outflowsHeld, openingHeld, costHeld}
 use Rattle.plan.specs.Numbers.{Numbers, rateOf, untilOf, paymentsMeant, ratesMeant, meaning, numbers}
 use Rattle.plan.specs.Refusal.{
   check,
@@ -30,6 +31,7 @@ use Rattle.plan.specs.Refusal.{
   paymentsOk,
   outflowsOk,
   openingOk,
+  costOk,
   amountsOk,
   rolloverOk,
   untilsOk,
@@ -48,7 +50,7 @@ use Rattle.plan.specs.Refusal.{
 use Rattle.plan.specs.declared.Instrument.{Instrument}
 use Rattle.plan.specs.declared.Pattern.{Pattern}
 use Rattle.plan.specs.declared.Plan.{Plan}
-use Rattle.plan.proofs.Held.{instrument-is, pattern-is, outflow-is, opening-is, rollover-is, rollover-past, allocation-is, payment-is, rate-is, until-is, instrument-each, pattern-each}
+use Rattle.plan.proofs.Held.{instrument-is, pattern-is, outflow-is, opening-is, cost-is, cost-none, rollover-is, rollover-past, allocation-is, payment-is, rate-is, until-is, instrument-each, pattern-each}
 
 -- ---- each test of an array is the test of the numbers that stand there
 -- the first n of an array lie between 0 and b
@@ -73,6 +75,11 @@ up-to-table b n f few = all-cong n _ _ (λ k l. ap (isBetween (pos 0) (pos b)) (
 pub opening-passes : (P : Numbers) → ((k : ℕ) → P .b k ≡ pos 0) → openingOk P ≡ true
 unfolding openingOk
 opening-passes P none = all-yes (P .years) _ (λ k l. between-yes _ _ _ (rw (none (1 + k)) (omega whole)))
+
+-- so has a cost of nothing
+pub cost-passes : (P : Numbers) → ((j : ℕ) → P .cost j ≡ pos 0) → costOk P ≡ true
+unfolding costOk
+cost-passes P none = all-yes (P .instruments) _ (λ j l. between-yes _ _ _ (rw (none (1 + j)) (omega whole)))
 
 -- and where no pattern is a slope, T is 1
 pub untils-none : (H : Held) → ((t : ℕ) → H .pattern t .sloped ≡ false) → untilsOk (meaning H) ≡ true
@@ -105,6 +112,11 @@ module _ (plan : Plan) where
   pub opening-ok : plan .opened ≡ true → upTo most (plan .years) (plan .opening) ≡ openingOk (numbers plan)
   unfolding openingOk
   opening-ok e = all-cong (plan .years) _ _ (λ k l. ap (isBetween (pos 0) (pos most)) (sym (opening-is plan k l ∙ rw e)))
+
+  -- so is the cost
+  pub cost-ok : plan .costed ≡ true → upTo most (plan .instruments) (plan .cost) ≡ costOk (numbers plan)
+  unfolding costOk
+  cost-ok e = all-cong (plan .instruments) _ _ (λ j l. ap (isBetween (pos 0) (pos most)) (sym (cost-is plan j l ∙ rw e)))
 
   pub rollover-ok : eqb (sumℕ (plan .terms) (λ d. getD (plan .rollover) d 0)) million ≡ rolloverOk (numbers plan)
   unfolding rolloverOk
@@ -184,13 +196,21 @@ module _ (plan : Plan) where
   unfolding outflowsHeld
   outflow-each e = entry-each _ _ _ (Within most) (omega whole) (λ k l. between-fact _ _ _ (all-at (plan .years) _ k l (outflows-ok plan ∙ e)))
 
+  -- amounts of which all n are held or none
+  held-each : (isHeld : Bool) (n : ℕ) (f : ℕ → ℤ) → all n (λ k. isBetween (pos 0) (pos most) (entry (pos 0) (pick isHeld n 0) f (1 + k))) ≡ true
+      → (k : ℕ) → Between (pos 0) (pos most) (entry (pos 0) (pick isHeld n 0) f k)
+  held-each isHeld n f e k =
+      subst (λ (b : ℕ → ℤ). Between (pos 0) (pos most) (b k)) (sym (entry-own (pos 0) (pick isHeld n 0) f))
+      (entry-each (pos 0) (pick isHeld n 0) _ (Between (pos 0) (pos most)) (omega whole)
+      (λ k l. between-fact _ _ _ (all-at n _ k (omega (arith, l, pick-few isHeld n)) e)) k)
+
   opening-each : openingOk (numbers plan) ≡ true → (k : ℕ) → Between (pos 0) (pos most) (numbers plan .b k)
   unfolding openingOk openingHeld
-  opening-each e k =
-      let n = openings (shapeOf plan) in
-      subst (λ (b : ℕ → ℤ). Between (pos 0) (pos most) (b k)) (sym (entry-own (pos 0) n _))
-      (entry-each (pos 0) n _ (Between (pos 0) (pos most)) (omega whole)
-      (λ k l. between-fact _ _ _ (all-at (plan .years) _ k (omega (arith, l, pick-few (plan .opened) (plan .years))) e)) k)
+  opening-each = held-each (plan .opened) (plan .years) _
+
+  cost-each : costOk (numbers plan) ≡ true → (j : ℕ) → Between (pos 0) (pos most) (numbers plan .cost j)
+  unfolding costOk costHeld
+  cost-each = held-each (plan .costed) (plan .instruments) _
 
   rate-each : ratesOk (numbers plan) ≡ true → (t l : ℕ) → Between (pos 0) (pos top) (numbers plan .i t l)
   unfolding ratesOk ratesFit
@@ -223,6 +243,7 @@ accepted plan e =
     let e₈ = first-next (amountsRefusal P) _ e₆ in
     let both₆ = check-true (amountsOk P) 6 _ (omega arith) amounts in
     let flows₆ = both-second (paymentsOk P) _ both₆ in
+    let held₆ = both-second (outflowsOk P) _ flows₆ in
     let e₇ = check-rest (amountsOk P) 6 _ (omega arith) amounts in
     let e₁₃ = first-none (ratesRefusal P) _ e₈ in
     let untils = until-each plan (check-true (untilsOk P) 13 _ (omega arith) e₁₃) in
@@ -230,7 +251,9 @@ accepted plan e =
       head = head-passed P (first-none (headRefusal P) _ e);
       payments = payment-each plan (both-first _ _ both₆);
       outflows = outflow-each plan (both-first _ _ flows₆);
-      opening = opening-each plan (both-second (outflowsOk P) _ flows₆);
+      opening = opening-each plan (both-first _ _ held₆);
+      cost = cost-each plan (both-second (openingOk P) _ held₆);
+      uncosted = cost-none plan;
       rollover = eqb-true _ _ (check-true (rolloverOk P) 7 0 (omega arith) e₇);
       rollover-past = rollover-past plan;
       until-some = λ t. untils t .0;
@@ -268,6 +291,10 @@ module _ {P : Numbers} (ok : Accepted P) where
   unfolding openingOk
   opening-pass = all-yes (P .years) _ (λ k l. between-yes _ _ _ (ok .opening (1 + k)))
 
+  cost-pass : costOk P ≡ true
+  unfolding costOk
+  cost-pass = all-yes (P .instruments) _ (λ j l. between-yes _ _ _ (ok .cost (1 + j)))
+
   untils-pass : untilsOk P ≡ true
   unfolding untilsOk
   untils-pass = all-yes (P .patterns) _ (λ t h. from-yes 1 30 (P .T (1 + t)) (ok .until-some (1 + t)) (ok .until-few (1 + t)))
@@ -278,4 +305,4 @@ module _ {P : Numbers} (ok : Accepted P) where
 
   pub accepted-none : refusalOf P ≡ 0
   unfolding refusalOf headRefusal amountsRefusal ratesRefusal allocationRefusal amountsOk rolloverOk allocationOk
-  accepted-none = rw (head-passes, payments-pass, outflows-pass, opening-pass, eq-eqb _ _ (ok .rollover), untils-pass, rates-pass, eq-eqb _ _ (ok .allocation))
+  accepted-none = rw (head-passes, payments-pass, outflows-pass, opening-pass, cost-pass, eq-eqb _ _ (ok .rollover), untils-pass, rates-pass, eq-eqb _ _ (ok .allocation))

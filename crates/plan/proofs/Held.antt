@@ -18,6 +18,7 @@ use Rattle.plan.specs.Held.{
   HeldPattern,
   Held,
   openings,
+  costs,
   ratesListed,
   unheldInstrument,
   unheldPattern,
@@ -32,6 +33,7 @@ use Rattle.plan.specs.Held.{
   patternsHeld,
   allocationHeld,
   openingHeld,
+  costHeld,
   held,
   noInstrument,
   noPattern,
@@ -42,10 +44,10 @@ use Rattle.plan.specs.Held.{
 use Rattle.plan.specs.Numbers.{rateIn, rateOf, untilOf, numbers}
 use Rattle.plan.specs.Refusal.{Head}
 
--- money that is held for all years or for none: in a year it is the amount, or 0
-money-at : (opened : Bool) (N : ℕ) (f : ℕ → ℤ) (k : ℕ) → k < N → entry (pos 0) (pick opened N 0) f (1 + k) ≡ pick opened (f k) (pos 0)
-money-at true N f k h = entry-at (pos 0) N f k h
-money-at false N f k h = entry-empty (pos 0) f (1 + k)
+-- amounts of which all n are held or none: where all are, each is the amount, else it is 0
+pub held-at : (isHeld : Bool) (n : ℕ) (f : ℕ → ℤ) (k : ℕ) → k < n → entry (pos 0) (pick isHeld n 0) f (1 + k) ≡ pick isHeld (f k) (pos 0)
+held-at true n f k h = entry-at (pos 0) n f k h
+held-at false n f k h = entry-empty (pos 0) f (1 + k)
 
 -- the rate of a pattern in year 2 + l
 pub rate-at : (N : ℕ) (i : HeldPattern) (l : ℕ) → l < N - 1 → rateOf N i (2 + l) ≡ rateIn i l
@@ -86,7 +88,11 @@ module _ (plan : Plan) where
 
   pub opening-is : (k : ℕ) → k < plan .years → numbers plan .b (1 + k) ≡ pick (plan .opened) (getD (plan .opening) k (pos 0)) (pos 0)
   unfolding openingHeld
-  opening-is = money-at (plan .opened) (plan .years) (λ k. getD (plan .opening) k (pos 0))
+  opening-is = held-at (plan .opened) (plan .years) (λ k. getD (plan .opening) k (pos 0))
+
+  pub cost-is : (j : ℕ) → j < plan .instruments → numbers plan .cost (1 + j) ≡ pick (plan .costed) (getD (plan .cost) j (pos 0)) (pos 0)
+  unfolding costHeld
+  cost-is = held-at (plan .costed) (plan .instruments) (λ j. getD (plan .cost) j (pos 0))
 
   -- ---- and where nothing does
   -- what holds of nothing and of every row of the plan holds at every index
@@ -104,6 +110,11 @@ module _ (plan : Plan) where
   pub opening-none : plan .opened ≡ false → (k : ℕ) → numbers plan .b k ≡ pos 0
   unfolding openingHeld
   opening-none e = rw e (entry-empty (pos 0) (λ k. getD (plan .opening) k (pos 0)))
+
+  -- a cost that is not held is none
+  pub cost-none : plan .costed ≡ false → (j : ℕ) → numbers plan .cost j ≡ pos 0
+  unfolding costHeld
+  cost-none e = rw e (entry-empty (pos 0) (λ j. getD (plan .cost) j (pos 0)))
 
   -- in year 0 nothing is paid and nothing goes out, nor past the last year
   pub payment-before : (j : ℕ) → numbers plan .a 0 j ≡ pos 0
@@ -127,6 +138,11 @@ module _ (plan : Plan) where
   pub opening-past : (k : ℕ) → plan .years < k → numbers plan .b k ≡ pos 0
   unfolding openingHeld
   opening-past k h = entry-beyond (pos 0) (openings (shapeOf plan)) _ k (omega (arith, h, pick-few (plan .opened) (plan .years)))
+
+  -- there is no cost past the last instrument
+  pub cost-past : (j : ℕ) → plan .instruments < j → numbers plan .cost j ≡ pos 0
+  unfolding costHeld
+  cost-past j h = entry-beyond (pos 0) (costs (shapeOf plan)) _ j (omega (arith, h, pick-few (plan .costed) (plan .instruments)))
 
   -- no share is rolled over before the first term, nor past the last
   pub rollover-before : numbers plan .r 0 ≡ 0
@@ -178,10 +194,11 @@ pub record Tidy (H : Held) : Type 0 where
   pub rates : (t : ℕ) → TidyPattern (H .shape .years) (H .pattern t)
   pub allocation : H .allocation ≡ entry 0 (H .shape .instruments) (λ j. H .allocation (1 + j))
   pub opening : H .opening ≡ entry (pos 0) (openings (H .shape)) (λ k. H .opening (1 + k))
+  pub cost : H .cost ≡ entry (pos 0) (costs (H .shape)) (λ j. H .cost (1 + j))
 
 -- what a plan holds does
 pub tidy-held : (plan : Plan) → Head (numbers plan) → Tidy (held plan)
-unfolding instrumentsHeld outflowsHeld rolloverHeld patternsHeld allocationHeld openingHeld
+unfolding instrumentsHeld outflowsHeld rolloverHeld patternsHeld allocationHeld openingHeld costHeld
 tidy-held plan h = record {
   years-few = h .years-few;
   instruments-few = h .instruments-few;
@@ -195,6 +212,7 @@ tidy-held plan h = record {
   rates = pattern-each plan (TidyPattern (plan .years)) (tidy-none (plan .years)) (λ t l. tidy-row (plan .years) (patternAt plan t));
   allocation = entry-own 0 (plan .instruments) _;
   opening = entry-own (pos 0) (openings (shapeOf plan)) _;
+  cost = entry-own (pos 0) (costs (shapeOf plan)) _;
 }
 
 -- the first n of an array that is filled with f are those of f
@@ -241,6 +259,12 @@ module _ (H : Held) (tidy : Tidy H) where
       let few : openings (H .shape) ≤ 30 = omega (arith, pick-few (H .shape .opened) (H .shape .years), tidy .years-few) in
       entry-table (pos 0) (pos 0) (pos 0) 30 (openings (H .shape)) _ few ∙ sym (tidy .opening)
 
+  same-cost : costHeld (planFrom H) ≡ H .cost
+  unfolding costHeld planFrom
+  same-cost =
+      let few : costs (H .shape) ≤ 16 = omega (arith, pick-few (H .shape .costed) (H .shape .instruments), tidy .instruments-few) in
+      entry-table (pos 0) (pos 0) (pos 0) 16 (costs (H .shape)) _ few ∙ sym (tidy .cost)
+
   pub held-from : held (planFrom H) ≡ H
   unfolding planFrom
-  held-from = rw (same-instruments, same-outflows, same-rollover, same-patterns, same-allocation, same-opening)
+  held-from = rw (same-instruments, same-outflows, same-rollover, same-patterns, same-allocation, same-opening, same-cost)

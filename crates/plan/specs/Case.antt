@@ -1,10 +1,11 @@
--- The plans of the worked cases: L and its neighbours, the plans of one year, those of four with one pattern, and those of three with a
--- slope and a list.
+-- The plans of the worked cases: L and its neighbours, the plans of one year, those of four with one pattern, those of three with a slope and
+-- a list, and those of fourteen that come near the limit.
 use mathlib.Core.Bool.{Bool, true, false}
-use mathlib.Core.List.{List, _∷_}
+use mathlib.Core.List.{List, [], _∷_, _++_}
 use Prim.Native.Nat.{ℕ}
 use lib.ListN.{replicate}
 use lib.IntN.{ℤ, pos}
+use Rattle.plan.specs.declared.Instrument.{Instrument}
 use Rattle.plan.specs.declared.Pattern.{Pattern}
 use Rattle.plan.specs.declared.Plan.{Plan}
 use Rattle.plan.specs.Held.{noInstrument, noPattern}
@@ -33,6 +34,8 @@ nearL share rate = record {
   allocation = 500_000 ∷ 500_000 ∷ replicate 14 0;
   opened = false;
   opening = replicate 30 (pos 0);
+  costed = false;
+  cost = replicate 16 (pos 0);
 }
 
 unfoldable pub planL : Plan
@@ -52,11 +55,52 @@ renewed outflow opened money = record {
   allocation = 1_000_000 ∷ replicate 15 0;
   opened = opened;
   opening = money ∷ replicate 29 (pos 0);
+  costed = false;
+  cost = replicate 16 (pos 0);
 }
 
 -- without such money
 unfoldable pub oneYear : (outflow : ℤ) → Plan
 oneYear outflow = renewed outflow false (pos 0)
+
+-- one year, two notes that pay 1080000000 each, half of either, an outflow, and the cost of each that is left at the horizon, held or not
+unfoldable pub longer : (outflow : ℤ) (costed : Bool) (first second : ℤ) → Plan
+longer outflow costed first second =
+    let note : Instrument = record { payments = pos 1_080_000_000 ∷ replicate 29 (pos 0) } in
+    record {
+      years = 1;
+      instruments = 2;
+      terms = 1;
+      patterns = 1;
+      instrument = note ∷ note ∷ replicate 14 noInstrument;
+      outflows = outflow ∷ replicate 29 (pos 0);
+      rollover = 1_000_000 ∷ replicate 29 0;
+      pattern = replicate 64 noPattern;
+      allocation = 500_000 ∷ 500_000 ∷ replicate 14 0;
+      opened = false;
+      opening = replicate 30 (pos 0);
+      costed = costed;
+      cost = first ∷ second ∷ replicate 14 (pos 0);
+    }
+
+-- fourteen years at 20 percent, in which nothing that is invested matures: a note that pays nothing, an outflow in each of thirteen years and
+-- another in the last, and the cost of the note
+unfoldable pub farOut : (outflow last : ℤ) (costed : Bool) (cost : ℤ) → Plan
+farOut outflow last costed cost = record {
+  years = 14;
+  instruments = 1;
+  terms = 30;
+  patterns = 1;
+  instrument = replicate 16 noInstrument;
+  outflows = replicate 13 outflow ++ (last ∷ replicate 16 (pos 0));
+  rollover = replicate 29 0 ++ (1_000_000 ∷ []);
+  pattern = listed (replicate 30 (pos 200_000)) ∷ replicate 63 noPattern;
+  allocation = 1_000_000 ∷ replicate 15 0;
+  opened = false;
+  opening = replicate 30 (pos 0);
+  costed = costed;
+  cost = cost ∷ replicate 15 (pos 0);
+}
 
 -- four years, 1000000000 in the first, all of it rolled over every year, and this pattern
 unfoldable pub fourYears : Pattern → Plan
@@ -72,6 +116,8 @@ fourYears row = record {
   allocation = 1_000_000 ∷ replicate 15 0;
   opened = false;
   opening = replicate 30 (pos 0);
+  costed = false;
+  cost = replicate 16 (pos 0);
 }
 
 -- three years, one payment of 1080000000, and two patterns: a slope, and a list of 60000 and 90000; and what each of the two carries for
@@ -92,4 +138,6 @@ sloping start step until other = record {
   allocation = 1_000_000 ∷ replicate 15 0;
   opened = false;
   opening = replicate 30 (pos 0);
+  costed = false;
+  cost = replicate 16 (pos 0);
 }

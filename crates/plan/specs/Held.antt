@@ -37,10 +37,12 @@ pub record Held : Type 0 where
   pub pattern : (t : ℕ) → HeldPattern
   pub allocation : (j : ℕ) → ℕ
   pub opening : (k : ℕ) → ℤ
+  pub cost : (j : ℕ) → ℤ
 
--- nothing is held that document 01 does not know: no money already invested, and no slope
+-- nothing is held that document 01 does not know: no money already invested, no cost at the horizon, and no slope
 pub record PlainHeld (H : Held) : Type 0 where
   pub opened : H .shape .opened ≡ false
+  pub costed : H .shape .costed ≡ false
   pub sloped : (t : ℕ) → H .pattern t .sloped ≡ false
 
 -- 1 where a kind is held, 0 where it is not: how many records it has
@@ -50,6 +52,10 @@ flag isHeld = pick isHeld 1 0
 -- for how many years money already invested is held (document 02, item 1): all N, or none
 abbrev pub openings : Shape → ℕ
 openings h = pick (h .opened) (h .years) 0
+
+-- of how many instruments the cost that is left at the horizon is held (document 02, item 6): of all n, or of none
+abbrev pub costs : Shape → ℕ
+costs h = pick (h .costed) (h .instruments) 0
 
 -- how many rates a pattern lists over N years: those of years 2 to N, or none where it is a slope
 abbrev pub ratesListed : (N : ℕ) → (sloped : Bool) → ℕ
@@ -82,7 +88,14 @@ missingPattern = record { rates = []; sloped = false; start = pos 0; step = pos 
 
 module _ (plan : Plan) where
   abbrev pub shapeOf : Shape
-  shapeOf = record { years = plan .years; instruments = plan .instruments; terms = plan .terms; patterns = plan .patterns; opened = plan .opened }
+  shapeOf = record {
+    years = plan .years;
+    instruments = plan .instruments;
+    terms = plan .terms;
+    patterns = plan .patterns;
+    opened = plan .opened;
+    costed = plan .costed;
+  }
 
   -- row j of the instruments and row t of the patterns, counted from 0
   abbrev pub instrumentAt : (j : ℕ) → Instrument
@@ -109,6 +122,9 @@ module _ (plan : Plan) where
   unfoldable pub openingHeld : (k : ℕ) → ℤ
   openingHeld = entry (pos 0) (openings shapeOf) (λ k. getD (plan .opening) k (pos 0))
 
+  unfoldable pub costHeld : (j : ℕ) → ℤ
+  costHeld = entry (pos 0) (costs shapeOf) (λ j. getD (plan .cost) j (pos 0))
+
   abbrev pub held : Held
   held = record {
     shape = shapeOf;
@@ -118,6 +134,7 @@ module _ (plan : Plan) where
     pattern = patternsHeld;
     allocation = allocationHeld;
     opening = openingHeld;
+    cost = costHeld;
   }
 
 -- a pattern's types say that a start and a step have 32 bits; no check does
@@ -150,6 +167,8 @@ noPlan = record {
   allocation = replicate 16 0;
   opened = false;
   opening = replicate 30 (pos 0);
+  costed = false;
+  cost = replicate 16 (pos 0);
 }
 
 -- one row of it
@@ -181,4 +200,6 @@ planFrom H =
       allocation = table 16 (h .instruments) (λ j. H .allocation (1 + j)) 0;
       opened = h .opened;
       opening = table 30 (openings h) (λ k. H .opening (1 + k)) (pos 0);
+      costed = h .costed;
+      cost = table 16 (costs h) (λ j. H .cost (1 + j)) (pos 0);
     }

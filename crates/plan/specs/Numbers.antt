@@ -1,5 +1,6 @@
 -- What is held means: numbers by document 01's letters and indices, each 0 outside N, n, q and m (but T, which is 1 where there is no
 -- slope). Every refusal, answer and theorem is over these numbers, and none over a plan or a file.
+use mathlib.Core.Bool.{Bool}
 use mathlib.Core.List.{List}
 use Prim.Native.Nat.{ℕ, _+_, _-_, min}
 use lib.IntN.{ℤ, pos, _+ℤ_, _-ℤ_, _*ℤ_}
@@ -11,7 +12,8 @@ use Rattle.plan.specs.Held.{HeldInstrument, HeldPattern, Held, held}
 
 -- N, n, q, m; the payment a_kj of instrument j in year k, the outflow o_k, the rollover share r_d, the rate i_l of pattern t,
 -- the share p_j of the allocation, and what money already invested pays in year k, b_k (document 02, item 1; a_k0 in document
--- 004, equation 2'); T of pattern t, which check 13 looks at: 1 where the pattern is no slope
+-- 004, equation 2'); T of pattern t, which check 13 looks at: 1 where the pattern is no slope; the cost of instrument j that is left at the
+-- horizon, and whether it is held, since the bound counts the record and not its numbers (document 02, item 6)
 pub record Numbers : Type 0 where
   pub years : ℕ
   pub instruments : ℕ
@@ -24,6 +26,8 @@ pub record Numbers : Type 0 where
   pub p : (j : ℕ) → ℕ
   pub b : (k : ℕ) → ℤ
   pub T : (t : ℕ) → ℕ
+  pub cost : (j : ℕ) → ℤ
+  pub costed : Bool
 
 -- what an instrument pays in year k
 abbrev pub paymentOf : HeldInstrument → (k : ℕ) → ℤ
@@ -59,6 +63,8 @@ meaning H = record {
   p = H .allocation;
   b = H .opening;
   T = λ t. untilOf (H .pattern t);
+  cost = H .cost;
+  costed = H .shape .costed;
 }
 
 -- of a plan

@@ -25,7 +25,7 @@ abbrev pub answer : {A : Type 0} → (refused : ℕ → A) → (number : ℕ) �
 answer refused zero accepted = accepted
 answer refused (suc n) accepted = refused (suc n)
 
--- the most that a payment is, or what money already invested pays in a year, or an outflow without its sign
+-- the most that a payment is, or what money already invested pays in a year, or the cost left of an instrument, or an outflow without its sign
 abbrev pub most : ℕ
 most = 20_000_000_000
 
@@ -44,7 +44,8 @@ module _ (P : Numbers) where
   unfoldable pub headOk : Bool
   headOk = countsOk (P .years) (P .instruments) (P .terms) (P .patterns)
 
-  -- 6: the payments of instrument 1 + j, those of all, the outflows, the money already invested (document 02, item 1)
+  -- 6: the payments of instrument 1 + j, those of all, the outflows, the money already invested (document 02, item 1), the cost that is left
+  -- at the horizon (item 6)
   unfoldable pub paymentsFit : (j : ℕ) → Bool
   paymentsFit j = all (P .years) (λ k. isBetween (pos 0) (pos most) (P .a (1 + k) (1 + j)))
 
@@ -57,8 +58,11 @@ module _ (P : Numbers) where
   unfoldable pub openingOk : Bool
   openingOk = all (P .years) (λ k. isBetween (pos 0) (pos most) (P .b (1 + k)))
 
+  unfoldable pub costOk : Bool
+  costOk = all (P .instruments) (λ j. isBetween (pos 0) (pos most) (P .cost (1 + j)))
+
   unfoldable pub amountsOk : Bool
-  amountsOk = both paymentsOk (both outflowsOk openingOk)
+  amountsOk = both paymentsOk (both outflowsOk (both openingOk costOk))
 
   -- 7
   unfoldable pub rolloverOk : Bool
@@ -125,12 +129,14 @@ pub record Head (P : Numbers) : Type 0 where
   pub patterns-some : 1 ≤ P .patterns
   pub patterns-few : P .patterns ≤ 64
 
--- what a plan has that is not refused, for every index: what lies outside N, n, q and m is 0, and T is 1 there
+-- what a plan has that is not refused, for every index: what lies outside N, n, q and m is 0, and T is 1 there; a cost that is not held is 0
 pub record Accepted (P : Numbers) : Type 0 where
   pub head : Head P
   pub payments : (k j : ℕ) → Between (pos 0) (pos most) (P .a k j)
   pub outflows : (k : ℕ) → Within most (P .o k)
   pub opening : (k : ℕ) → Between (pos 0) (pos most) (P .b k)
+  pub cost : (j : ℕ) → Between (pos 0) (pos most) (P .cost j)
+  pub uncosted : P .costed ≡ false → (j : ℕ) → P .cost j ≡ pos 0
   pub rollover : Σℕ 1 (P .terms) (P .r) ≡ million
   pub rollover-past : (d : ℕ) → P .terms < d → P .r d ≡ 0
   pub until-some : (t : ℕ) → 1 ≤ P .T t

@@ -9,7 +9,7 @@ ghost use Rattle.whole.specs.Test.{pick, all, isFrom, isBetween};
 ghost use Rattle.whole.specs.Table.{table};
 ghost use Rattle.plan.specs.Held.{flag, shapeOf, instrumentHeld, patternHeld, SlopeTyped, Typed};
 ghost use Rattle.plan.specs.Numbers.{paymentsMeant, slope, ratesMeant, numbers};
-ghost use Rattle.plan.specs.Refusal.{Head, shapeOk, paymentsOk, outflowsOk, openingOk, amountsOk, rolloverOk, untilsOk, ratesOk, allocationOk, headRefusal, amountsRefusal, ratesRefusal, allocationRefusal, refusalOf, refusalWith};
+ghost use Rattle.plan.specs.Refusal.{Head, shapeOk, paymentsOk, outflowsOk, openingOk, costOk, amountsOk, rolloverOk, untilsOk, ratesOk, allocationOk, headRefusal, amountsRefusal, ratesRefusal, allocationRefusal, refusalOf, refusalWith};
 
 // N, n, q and m, and which kinds are held that may be absent: what decides which records a plan file has.
 pub struct Shape {
@@ -18,6 +18,7 @@ pub struct Shape {
     pub terms: usize,
     pub patterns: usize,
     pub opened: bool,
+    pub costed: bool,
 }
 
 // The payments of one instrument per 1,000,000,000 put in, year after year.
@@ -38,7 +39,8 @@ pub struct Pattern {
 }
 
 // N, n, q and m, and the numbers that they count; what an array holds past them plays no part. `opened` says whether the plan holds
-// money already invested; where it does not, nothing in `opening` plays a part.
+// money already invested; where it does not, nothing in `opening` plays a part. `costed` says whether it holds what is left of each instrument
+// at the horizon, at cost per 1,000,000,000 put in; where it does not, nothing in `cost` does.
 pub struct Plan {
     pub years: usize,
     pub instruments: usize,
@@ -50,7 +52,9 @@ pub struct Plan {
     pub pattern: [Pattern; 64],
     pub allocation: [u32; 16],
     pub opening: [i64; 30],
+    pub cost: [i64; 16],
     pub opened: bool,
+    pub costed: bool,
 }
 
 // ---- what is meant
@@ -65,6 +69,7 @@ pub fn shape_of(plan: Plan) -> Shape
         terms: plan.terms,
         patterns: plan.patterns,
         opened: plan.opened,
+        costed: plan.costed,
     }
 }
 
@@ -250,6 +255,19 @@ fn opening_ok(plan: Plan) -> bool
     amounts_ok(&opening, plan.years, 0, 20_000_000_000)
 }
 
+// Check 6, the cost that is left at the horizon.
+fn cost_ok(plan: Plan) -> bool
+    requires { ⌜ Head (numbers plan) ⌝ }
+    ensures { λ b. ⌜ b ≡ costOk (numbers plan) ⌝ }
+{
+    let costed = plan.costed;
+    if !costed {
+        return true;
+    }
+    let cost = plan.cost;
+    amounts_ok(&cost, plan.instruments, 0, 20_000_000_000)
+}
+
 // Check 6.
 fn all_amounts_ok(plan: Plan) -> bool
     requires { ⌜ Head (numbers plan) ⌝ }
@@ -261,7 +279,10 @@ fn all_amounts_ok(plan: Plan) -> bool
     if !outflows_ok(plan) {
         return false;
     }
-    opening_ok(plan)
+    if !opening_ok(plan) {
+        return false;
+    }
+    cost_ok(plan)
 }
 
 // Check 7.

@@ -20,14 +20,26 @@ use Rattle.planfile.proofs.Checks.{layout-laid}
 use Rattle.planfile.proofs.Roles.{tidy-read}
 use Rattle.planfile.proofs.Trips.{file-again, held-read, typed-plan}
 
--- a file without a kind 7 holds nothing for it
+-- a file without a kind 7 holds nothing for it, nor does one without a kind 9
 pub unopened-none : (s : List ℕ) → shapeIn s .opened ≡ false → (k : ℕ) → heldIn s .opening k ≡ pos 0
 unfolding heldIn heldOf
 unopened-none s e = rw e (entry-empty (pos 0) _)
 
+pub uncosted-none : (s : List ℕ) → shapeIn s .costed ≡ false → (j : ℕ) → heldIn s .cost j ≡ pos 0
+unfolding heldIn heldOf
+uncosted-none s e = rw e (entry-empty (pos 0) _)
+
+pub uncosted-in : (s : List ℕ) → shapeIn s .costed ≡ false → heldIn s .shape .costed ≡ false
+unfolding heldIn heldOf
+uncosted-in s e = e
+
 pub plain-unopened : (s : List ℕ) → PlainHeld (heldIn s) → shapeIn s .opened ≡ false
 unfolding heldIn heldOf
 plain-unopened s e = e .opened
+
+pub plain-uncosted : (s : List ℕ) → PlainHeld (heldIn s) → shapeIn s .costed ≡ false
+unfolding heldIn heldOf
+plain-uncosted s e = e .costed
 
 -- ---- checks 1 to 5 alone
 module _ (s : List ℕ) (e : recordsAnswer s .refusal ≡ 0) where

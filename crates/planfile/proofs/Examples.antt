@@ -1,10 +1,10 @@
--- Document 01's case L, and its neighbours at the edges, computed from the definitions; a file with money already invested, and one with
--- a slope and a list.
+-- Document 01's case L, and its neighbours at the edges, computed from the definitions; a file with money already invested, one with a note
+-- that is longer than the plan, and one with a slope and a list.
 use mathlib.Core.Path.{_≡_, refl}
-use mathlib.Core.Bool.{true, false}
+use mathlib.Core.Bool.{Bool, true, false}
 use mathlib.Core.List.{List, [], _∷_, _++_, map}
 use Prim.Native.Nat.{ℕ}
-use lib.IntN.{pos, negsuc}
+use lib.IntN.{ℤ, pos, negsuc}
 use lib.ListN.{replicate}
 use Rattle.whole.specs.Entry.{nth, cut, entry}
 use Rattle.whole.specs.Sum.{sumℕ}
@@ -15,10 +15,11 @@ use Rattle.little_endian.specs.TwosComplement.{signedOf, unsignedOf}
 use Rattle.little_endian.specs.Runs.{run, numberAt}
 use Rattle.records.specs.Record.{recordBytes, fileBytes}
 use Rattle.records.specs.Cursor.{wholeAt, wholeFrom, wholeFile, place, kindAt, bodyAt}
-use Rattle.plan.specs.Held.{instrumentsHeld, outflowsHeld, rolloverHeld, patternsHeld, allocationHeld, openingHeld, held, planFrom}
-use Rattle.plan.specs.Refusal.{shapeOk, headOk, paymentsFit, paymentsOk, outflowsOk, openingOk, amountsOk, rolloverOk, untilsOk, ratesFit, ratesOk, allocationOk, headRefusal, amountsRefusal, ratesRefusal, allocationRefusal, refusalOf}
+use Rattle.plan.specs.declared.Plan.{Plan}
+use Rattle.plan.specs.Held.{instrumentsHeld, outflowsHeld, rolloverHeld, patternsHeld, allocationHeld, openingHeld, costHeld, held, noInstrument, noPattern, planFrom}
+use Rattle.plan.specs.Refusal.{shapeOk, headOk, paymentsFit, paymentsOk, outflowsOk, openingOk, costOk, amountsOk, rolloverOk, untilsOk, ratesFit, ratesOk, allocationOk, headRefusal, amountsRefusal, ratesRefusal, allocationRefusal, refusalOf}
 use Rattle.plan.specs.Numbers.{slope}
-use Rattle.plan.specs.Case.{nearL, planL, renewed, sloping}
+use Rattle.plan.specs.Case.{listed, nearL, planL, renewed, sloping}
 use Rattle.planfile.specs.Kinds.{roleOf, sizeOf}
 use Rattle.planfile.specs.Groups.{groupsOf, total, spotAt, placeOf, laid}
 use Rattle.planfile.specs.Rows.{instrumentIn, instrumentRec, patternIn, patternRec}
@@ -54,7 +55,7 @@ pub refused-near : map readRefusal (fileL ∷ fileOf (held (nearL 1_000_000 (pos
     ≡ 0 ∷ 0 ∷ 8 ∷ 7 ∷ []
 unfolding readRefusal layoutRefusal wholeFile wholeFrom wholeAt firstOk shapeIn shapeOk hasRole roleOk rolesOk sizeOk sizesOk roleOf sizeOf nth all
     total spotAt place kindAt bodyAt leAt leOf heldIn heldOf recordIn groupsOf placeOf instrumentIn patternIn entry cut numberAt signedOf
-    refusalOf headRefusal amountsRefusal ratesRefusal allocationRefusal headOk paymentsOk paymentsFit isBetween outflowsOk openingOk amountsOk rolloverOk untilsOk ratesOk ratesFit allocationOk sumℕ
+    refusalOf headRefusal amountsRefusal ratesRefusal allocationRefusal headOk paymentsOk paymentsFit isBetween outflowsOk openingOk costOk amountsOk rolloverOk untilsOk ratesOk ratesFit allocationOk sumℕ
     fileOf fileFrom fileBytes recordBytes laid table recordOf instrumentRec patternRec run bytesOf unsignedOf
     instrumentsHeld outflowsHeld rolloverHeld patternsHeld allocationHeld nearL fileL
 refused-near = refl
@@ -100,9 +101,99 @@ pub refused-renewed : map readRefusal
     ≡ 0 ∷ 4 ∷ 5 ∷ 6 ∷ []
 unfolding readRefusal layoutRefusal wholeFile wholeFrom wholeAt firstOk shapeIn shapeOk hasRole roleOk rolesOk sizeOk sizesOk roleOf sizeOf nth all
     total spotAt place kindAt bodyAt leAt leOf heldIn heldOf recordIn groupsOf placeOf instrumentIn patternIn entry cut numberAt signedOf
-    refusalOf headRefusal amountsRefusal ratesRefusal allocationRefusal headOk paymentsOk paymentsFit isBetween outflowsOk openingOk amountsOk rolloverOk untilsOk ratesOk ratesFit allocationOk sumℕ
+    refusalOf headRefusal amountsRefusal ratesRefusal allocationRefusal headOk paymentsOk paymentsFit isBetween outflowsOk openingOk costOk amountsOk rolloverOk untilsOk ratesOk ratesFit allocationOk sumℕ
     renewedBefore openingTwo renewedRollover renewedAfter
 refused-renewed = refl
+
+-- a plan of two years with one note that pays 80000000 in each, money already invested that pays 2 in each, and the note's cost of
+-- 1000000000 that is left at the horizon; each of the last two held or not
+unfoldable pub lasting : (opened : Bool) (money : ℤ) (costed : Bool) (left : ℤ) → Plan
+lasting opened money costed left = record {
+  years = 2;
+  instruments = 1;
+  terms = 1;
+  patterns = 1;
+  instrument = record { payments = pos 80_000_000 ∷ pos 80_000_000 ∷ replicate 28 (pos 0) } ∷ replicate 15 noInstrument;
+  outflows = replicate 30 (pos 0);
+  rollover = 1_000_000 ∷ replicate 29 0;
+  pattern = listed (pos 60_000 ∷ replicate 29 (pos 0)) ∷ replicate 63 noPattern;
+  allocation = 1_000_000 ∷ replicate 15 0;
+  opened = opened;
+  opening = money ∷ money ∷ replicate 28 (pos 0);
+  costed = costed;
+  cost = left ∷ replicate 15 (pos 0);
+}
+
+-- the two records that may be absent
+unfoldable pub openingTwice : List ℕ
+openingTwice = 16 ∷ 0 ∷ 7 ∷ 0 ∷ 2 ∷ 0 ∷ 0 ∷ 0 ∷ 0 ∷ 0 ∷ 0 ∷ 0 ∷ 2 ∷ 0 ∷ 0 ∷ 0 ∷ 0 ∷ 0 ∷ 0 ∷ 0 ∷ []
+
+unfoldable pub costLeft : List ℕ
+costLeft = 8 ∷ 0 ∷ 9 ∷ 0 ∷ 0 ∷ 202 ∷ 154 ∷ 59 ∷ 0 ∷ 0 ∷ 0 ∷ 0 ∷ []
+
+-- the file with these records after the outflows, and these after the rollover
+unfoldable pub lastingFile : (before after : List ℕ) → List ℕ
+lastingFile before after =
+    (4 ∷ 0 ∷ 1 ∷ 0 ∷ 2 ∷ 1 ∷ 1 ∷ 1 ∷ [])
+    ++ (16 ∷ 0 ∷ 2 ∷ 0 ∷ 0 ∷ 180 ∷ 196 ∷ 4 ∷ 0 ∷ 0 ∷ 0 ∷ 0 ∷ 0 ∷ 180 ∷ 196 ∷ 4 ∷ 0 ∷ 0 ∷ 0 ∷ 0 ∷ [])
+    ++ (16 ∷ 0 ∷ 3 ∷ 0 ∷ replicate 16 0)
+    ++ before
+    ++ (4 ∷ 0 ∷ 4 ∷ 0 ∷ 64 ∷ 66 ∷ 15 ∷ 0 ∷ [])
+    ++ after
+    ++ (4 ∷ 0 ∷ 5 ∷ 0 ∷ 96 ∷ 234 ∷ 0 ∷ 0 ∷ 4 ∷ 0 ∷ 6 ∷ 0 ∷ 64 ∷ 66 ∷ 15 ∷ 0 ∷ [])
+
+-- its files where it holds neither, the one, the other, and both
+abbrev lastingFiles : List (List ℕ)
+lastingFiles = map (λ records. lastingFile records []) ([] ∷ openingTwice ∷ costLeft ∷ (openingTwice ++ costLeft) ∷ [])
+
+-- it is written with the records that it holds, whatever it carries for the others
+pub written-lasting : map (λ plan. fileOf (held plan))
+    (lasting false (pos 2) false (pos 1_000_000_000)
+    ∷ lasting true (pos 2) false (pos 1_000_000_000)
+    ∷ lasting false (pos 2) true (pos 1_000_000_000)
+    ∷ lasting true (pos 2) true (pos 1_000_000_000)
+    ∷ [])
+    ≡ lastingFiles
+unfolding fileOf fileFrom fileBytes recordBytes groupsOf laid table recordOf instrumentRec patternRec nth run bytesOf unsignedOf
+    instrumentsHeld outflowsHeld rolloverHeld patternsHeld allocationHeld openingHeld costHeld entry cut lasting openingTwice costLeft lastingFile
+written-lasting = refl
+
+-- and each is read as its own plan, with zeros for what it does not hold
+pub read-lasting : map (λ file. planFrom (heldIn file)) lastingFiles
+    ≡ lasting false (pos 0) false (pos 0)
+    ∷ lasting true (pos 2) false (pos 0)
+    ∷ lasting false (pos 0) true (pos 1_000_000_000)
+    ∷ lasting true (pos 2) true (pos 1_000_000_000)
+    ∷ []
+unfolding planFrom heldIn heldOf shapeIn hasRole wholeAt roleOf nth recordIn groupsOf placeOf instrumentIn patternIn entry cut table numberAt signedOf
+    kindAt bodyAt place leAt leOf lasting openingTwice costLeft lastingFile
+read-lasting = refl
+
+-- all four are taken
+pub taken-lasting : map readRefusal lastingFiles ≡ 0 ∷ 0 ∷ 0 ∷ 0 ∷ []
+unfolding readRefusal layoutRefusal wholeFile wholeFrom wholeAt firstOk shapeIn shapeOk hasRole roleOk rolesOk sizeOk sizesOk roleOf sizeOf nth all
+    total spotAt place kindAt bodyAt leAt leOf heldIn heldOf recordIn groupsOf placeOf instrumentIn patternIn entry cut numberAt signedOf
+    refusalOf headRefusal amountsRefusal ratesRefusal allocationRefusal headOk paymentsOk paymentsFit isBetween outflowsOk openingOk costOk amountsOk rolloverOk untilsOk ratesOk ratesFit allocationOk sumℕ
+    openingTwice costLeft lastingFile
+taken-lasting = refl
+
+-- the cost before the money already invested is refused 4, and so is the cost after the rollover, with that money and without, and the cost
+-- twice; a byte more in it is refused 5, and so are as many amounts as there are years; an amount of -1 in it is refused 6
+pub refused-lasting : map readRefusal
+    (lastingFile (costLeft ++ openingTwice) []
+    ∷ lastingFile openingTwice costLeft
+    ∷ lastingFile [] costLeft
+    ∷ lastingFile (costLeft ++ costLeft) []
+    ∷ lastingFile (9 ∷ 0 ∷ 9 ∷ 0 ∷ replicate 9 0) []
+    ∷ lastingFile (openingTwice ++ (16 ∷ 0 ∷ 9 ∷ 0 ∷ replicate 16 0)) []
+    ∷ lastingFile (8 ∷ 0 ∷ 9 ∷ 0 ∷ replicate 8 255) []
+    ∷ [])
+    ≡ 4 ∷ 4 ∷ 4 ∷ 4 ∷ 5 ∷ 5 ∷ 6 ∷ []
+unfolding readRefusal layoutRefusal wholeFile wholeFrom wholeAt firstOk shapeIn shapeOk hasRole roleOk rolesOk sizeOk sizesOk roleOf sizeOf nth all
+    total spotAt place kindAt bodyAt leAt leOf heldIn heldOf recordIn groupsOf placeOf instrumentIn patternIn entry cut numberAt signedOf
+    refusalOf headRefusal amountsRefusal ratesRefusal allocationRefusal headOk paymentsOk paymentsFit isBetween outflowsOk openingOk costOk amountsOk rolloverOk untilsOk ratesOk ratesFit allocationOk sumℕ
+    openingTwice costLeft lastingFile
+refused-lasting = refl
 
 -- a plan of three years with a slope and a list: the records before the patterns', the slope's, the list's, and that after them
 unfoldable pub slopingBefore : List ℕ
@@ -149,7 +240,7 @@ pub refused-sloping : map readRefusal
     ≡ 0 ∷ 0 ∷ 4 ∷ 5 ∷ 5 ∷ 13 ∷ 13 ∷ []
 unfolding readRefusal layoutRefusal wholeFile wholeFrom wholeAt firstOk shapeIn shapeOk hasRole roleOk rolesOk sizeOk sizesOk roleOf sizeOf nth all
     total spotAt place kindAt bodyAt leAt leOf heldIn heldOf recordIn groupsOf placeOf instrumentIn patternIn entry cut numberAt signedOf
-    refusalOf headRefusal amountsRefusal ratesRefusal allocationRefusal headOk paymentsOk paymentsFit isBetween outflowsOk openingOk amountsOk rolloverOk untilsOk ratesOk ratesFit allocationOk sumℕ
+    refusalOf headRefusal amountsRefusal ratesRefusal allocationRefusal headOk paymentsOk paymentsFit isBetween outflowsOk openingOk costOk amountsOk rolloverOk untilsOk ratesOk ratesFit allocationOk sumℕ
     slope renewedBefore renewedAfter slopingBefore slopeDown slopingList slopingAfter
 refused-sloping = refl
 
@@ -163,7 +254,7 @@ pub refused-slopes : map (λ plan. readRefusal (fileOf (held plan)))
     ≡ 0 ∷ 8 ∷ 0 ∷ 8 ∷ []
 unfolding readRefusal layoutRefusal wholeFile wholeFrom wholeAt firstOk shapeIn shapeOk hasRole roleOk rolesOk sizeOk sizesOk roleOf sizeOf nth all
     total spotAt place kindAt bodyAt leAt leOf heldIn heldOf recordIn groupsOf placeOf instrumentIn patternIn entry cut numberAt signedOf
-    refusalOf headRefusal amountsRefusal ratesRefusal allocationRefusal headOk paymentsOk paymentsFit isBetween outflowsOk openingOk amountsOk rolloverOk untilsOk ratesOk ratesFit allocationOk sumℕ
+    refusalOf headRefusal amountsRefusal ratesRefusal allocationRefusal headOk paymentsOk paymentsFit isBetween outflowsOk openingOk costOk amountsOk rolloverOk untilsOk ratesOk ratesFit allocationOk sumℕ
     fileOf fileFrom fileBytes recordBytes laid table recordOf instrumentRec patternRec run bytesOf unsignedOf
     instrumentsHeld outflowsHeld rolloverHeld patternsHeld allocationHeld slope sloping
 refused-slopes = refl

@@ -196,11 +196,11 @@ module _ (h : Shape) where
 
   pub total-few : InRange h → total (groupsOf h) ≤ 255
   unfolding groupsOf total
-  total-few r = omega (arith, r .instruments-few, r .patterns-few, held-few (h .opened))
+  total-few r = omega (arith, r .instruments-few, r .patterns-few, held-few (h .opened), held-few (h .costed))
 
-  pub most-few : InRange h → most (groupsOf h) ≤ 12_272
+  pub most-few : InRange h → most (groupsOf h) ≤ 12_404
   unfolding groupsOf nth
-  most-few r = omega (arith, r .instruments-few, r .patterns-few, held-few (h .opened))
+  most-few r = omega (arith, r .instruments-few, r .patterns-few, held-few (h .opened), held-few (h .costed))
 
   -- the spot of record t is that of a record of its role, whose place is t
   pub spot-back : (t : ℕ) → t < total (groupsOf h) → Back (groupsOf h) (spotAt (groupsOf h) t) t

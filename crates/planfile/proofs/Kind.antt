@@ -98,6 +98,8 @@ longest =
     ∷ 116
     ∷ 64
     ∷ 240
+    ∷ 0
+    ∷ 128
     ∷ [])
 
 module _ (h : Shape) (r : InRange h) where

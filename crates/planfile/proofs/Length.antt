@@ -46,7 +46,7 @@ module _ (h : Shape) (range : InRange h) (f : (role j : ℕ) → Rec) (fit : All
       (λ (l : countOf (groupsOf h) role ≤ j). rw (cut-past none _ (f role) j l) (omega arith))
       (ℕ-cases j (countOf (groupsOf h) role))
 
-  pub length-written : length (fileFrom h f) ≤ 12_272
+  pub length-written : length (fileFrom h f) ≤ 12_404
   unfolding fileFrom
   length-written =
       rw (laid-cong h f had (λ role j l. sym (cut-in none _ (f role) j l))) (omega (arith, groups-few had had-few (groupsOf h), most-few h range))

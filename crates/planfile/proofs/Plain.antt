@@ -1,4 +1,4 @@
--- A file that holds no money already invested and no slope is one of document 01: a group of no records plays no part, and a role of
+-- A file that holds no money already invested, no cost at the horizon and no slope is one of document 01: a group of no records plays no part, and a role of
 -- which only one kind stands is that kind.
 use mathlib.Core.Path.{_≡_, refl, sym, ap, ap₂, _∙_, subst, fun-ext}
 use mathlib.Core.Bool.{Bool, false}
@@ -43,8 +43,8 @@ module _ (r : ℕ) (hs : List Group) where
   place-skip [] role j n = rw (ne-eqb r role (λ e. n (sym e))) (omega arith)
   place-skip (g ∷ gs) role j n = ap (λ (p : ℕ). pick (eqb (g .role) role) j (g .count + p)) (place-skip gs role j n)
 
--- ---- the groups of a shape that does not hold it
-module _ (h : Shape) (e : h .opened ≡ false) where
+-- ---- the groups of a shape that holds neither of the two kinds that may be absent
+module _ (h : Shape) (unopened : h .opened ≡ false) (uncosted : h .costed ≡ false) where
   abbrev before : List Group
   before = one 1 ∷ many 2 (h .instruments) ∷ one 3 ∷ []
 
@@ -53,15 +53,16 @@ module _ (h : Shape) (e : h .opened ≡ false) where
 
   same-total : total (groupsOf h) ≡ total (groupsPlain h)
   unfolding groupsOf groupsPlain
-  same-total = rw e (total-skip 7 after before)
+  same-total = rw (unopened, uncosted) (total-skip 7 (many 9 0 ∷ after) before ∙ total-skip 9 after before)
 
   same-spot : (t : ℕ) → spotAt (groupsOf h) t ≡ spotAt (groupsPlain h) t
   unfolding groupsOf groupsPlain
-  same-spot t = rw e (spot-skip 7 after before t)
+  same-spot t = rw (unopened, uncosted) (spot-skip 7 (many 9 0 ∷ after) before t ∙ spot-skip 9 after before t)
 
-  same-place : (role j : ℕ) → (role ≡ 7 → ⊥) → placeOf (groupsOf h) role j ≡ placeOf (groupsPlain h) role j
+  same-place : (role j : ℕ) → (role ≡ 7 → ⊥) → (role ≡ 9 → ⊥) → placeOf (groupsOf h) role j ≡ placeOf (groupsPlain h) role j
   unfolding groupsOf groupsPlain
-  same-place role j n = rw e (place-skip 7 after before role j n)
+  same-place role j seven nine =
+      rw (unopened, uncosted) (place-skip 7 (many 9 0 ∷ after) before role j seven ∙ place-skip 9 after before role j nine)
 
 -- groups with the same records pass the same test of each record by its role
 same-test : (s : List ℕ) (test : (t role : ℕ) → Bool) (gs hs : List Group) → total gs ≡ total hs → ((t : ℕ) → spotAt gs t ≡ spotAt hs t)
@@ -71,14 +72,14 @@ same-test s test gs hs count spots =
     ap₂ (λ (n : ℕ) (ok : ℕ → Bool). both (all n ok) (eqb (place s n) (length s))) count
     (fun-ext (λ t. ap (λ (spot : Spot). test t (spot .role)) (spots t)))
 
-pub plain-file : (s : List ℕ) → shapeIn s .opened ≡ false → PlainFile s
+pub plain-file : (s : List ℕ) → shapeIn s .opened ≡ false → shapeIn s .costed ≡ false → PlainFile s
 unfolding rolesOk roleOk sizesOk
-plain-file s e =
+plain-file s o c =
     let h = shapeIn s in
     record {
-      kinds = same-test s (hasRole s) (groupsOf h) (groupsPlain h) (same-total h e) (same-spot h e);
-      sizes = ap (λ (n : ℕ). all n (sizeOk s h)) (same-total h e);
-      places = same-place h e;
+      kinds = same-test s (hasRole s) (groupsOf h) (groupsPlain h) (same-total h o c) (same-spot h o c);
+      sizes = ap (λ (n : ℕ). all n (sizeOk s h)) (same-total h o c);
+      places = same-place h o c;
     }
 
 -- ---- where no pattern is a slope, a record's role is its kind
@@ -107,6 +108,7 @@ module _ (s : List ℕ) (plain : PlainHeld (heldIn s)) where
       ▸ (λ j l. lone-kind 2 j (omega arith) refl refl)
       ▸ (λ j l. lone-kind 3 j (omega arith) refl refl)
       ▸ (λ j l. lone-kind 7 j (omega arith) refl refl)
+      ▸ (λ j l. lone-kind 9 j (omega arith) refl refl)
       ▸ (λ j l. lone-kind 4 j (omega arith) refl refl)
       ▸ (λ j l. role-kind 5 (kind 5 j) refl (λ r. paired 5 8 (omega arith) refl r ∙ rw (no-slope j l)))
       ▸ (λ j l. lone-kind 6 j (omega arith) refl refl)
@@ -127,6 +129,7 @@ module _ (s : List ℕ) (plain : PlainHeld (heldIn s)) where
   pub plain-kinds : PlainKinds s
   unfolding kindsPlain heldIn heldOf
   plain-kinds =
-      let e : h .opened ≡ false = plain .opened in
+      let o : h .opened ≡ false = plain .opened in
+      let c : h .costed ≡ false = plain .costed in
       let test : (t role : ℕ) → Bool = λ t role. both (wholeAt s (place s t)) (eqb (kindAt s t) role) in
-      record { kinds = kinds-of-roles ∙ same-test s test (groupsOf h) (groupsPlain h) (same-total h e) (same-spot h e) }
+      record { kinds = kinds-of-roles ∙ same-test s test (groupsOf h) (groupsPlain h) (same-total h o c) (same-spot h o c) }

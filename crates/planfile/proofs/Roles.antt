@@ -33,6 +33,7 @@ use Rattle.plan.specs.Held.{
   Held,
   flag,
   openings,
+  costs,
   ratesListed,
   unheldInstrument,
   unheldPattern,
@@ -107,6 +108,7 @@ module _ (H : Held) where
       ▸ (λ j l. suits-run 2 8 (h .years) _ refl refl)
       ▸ (λ j l. suits-run 3 8 (h .years) _ refl refl)
       ▸ (λ j l. suits-run 7 8 (h .years) _ refl refl)
+      ▸ (λ j l. suits-run 9 8 (h .instruments) _ refl refl)
       ▸ (λ j l. suits-run 4 4 (h .terms) _ refl refl)
       ▸ (λ j l. suits-pattern (H .pattern (1 + j)))
       ▸ (λ j l. suits-run 6 4 (h .instruments) _ refl refl)
@@ -117,12 +119,14 @@ module _ (H : Held) where
   unfolding fileOf groupsOf countOf placeOf
   opened-held range = held-there h range (recordOf H) suits-held 7 (2 + h .instruments) (h .opened) (omega arith) refl
 
+  costed-held : InRange h → hasRole (fileOf H) (2 + h .instruments + flag (h .opened)) 9 ≡ h .costed
+  unfolding fileOf groupsOf countOf placeOf
+  costed-held range = held-there h range (recordOf H) suits-held 9 (2 + h .instruments + flag (h .opened)) (h .costed) (omega arith) refl
+
   -- and the shape of their file is its shape
   pub shape-held : InRange h → shapeIn (fileOf H) ≡ h
   unfolding shapeIn fileOf fileFrom recordOf nth groupsOf laid table fileBytes recordBytes bytesOf
-  shape-held range =
-      ap (λ (opened : Bool). record { years = h .years; instruments = h .instruments; terms = h .terms; patterns = h .patterns; opened = opened })
-      (opened-held range)
+  shape-held range = rw (opened-held range, costed-held range)
 
 -- ---- the records that are read are written again
 module _ (h : Shape) {role : ℕ} {r : Rec} (b : Bytes (r .body)) (u : Suits h role r) (some : 0 < role) (e : Lone role) where
@@ -163,6 +167,7 @@ module _ (h : Shape) (g : (role j : ℕ) → Rec) (b : (role j : ℕ) → Bytes 
       ▸ (λ j l. ap (instrumentRec (h .years)) (entry-at unheldInstrument (h .instruments) _ j l) ∙ signed-rec h (b 2 j) (u 2 j l) (omega arith) refl w64 (h .years) refl)
       ▸ (λ j l. only 3 (signed-rec h (b 3 0) (u 3 0 (omega arith)) (omega arith) refl w64 (h .years) refl) l)
       ▸ (λ j l. only-held 7 (h .opened) w64 (h .years) refl (omega arith) refl refl l)
+      ▸ (λ j l. only-held 9 (h .costed) w64 (h .instruments) refl (omega arith) refl refl l)
       ▸ (λ j l. only 4 (shares-rec h (b 4 0) (u 4 0 (omega arith)) (omega arith) refl (h .terms) refl) l)
       ▸ (λ j l. ap (patternRec (h .years)) (entry-at unheldPattern (h .patterns) _ j l) ∙ pattern-rec h (b 5 j) (u 5 j l))
       ▸ (λ j l. only 6 (shares-rec h (b 6 0) (u 6 0 (omega arith)) (omega arith) refl (h .instruments) refl) l)
@@ -195,6 +200,7 @@ tidy-read h range g = record {
   rates = entry-each unheldPattern (h .patterns) _ (TidyPattern (h .years)) (tidy-none (h .years)) (λ t l. tidy-pattern (h .years) (g 5 t));
   allocation = entry-own 0 (h .instruments) _;
   opening = entry-own (pos 0) (openings h) _;
+  cost = entry-own (pos 0) (costs h) _;
 }
 
 -- and a start and a step that are read have 32 bits
@@ -226,6 +232,7 @@ pub record Fits (H : Held) : Type 0 where
   pub step : (t : ℕ) → SFits w32 (H .pattern t .step)
   pub allocation : (j : ℕ) → j < H .shape .instruments → H .allocation (1 + j) < 256 ^ 4
   pub opening : (k : ℕ) → SFits w64 (H .opening k)
+  pub cost : (j : ℕ) → SFits w64 (H .cost j)
 
 -- the rates that a pattern lists do where check 8 takes what it means
 rate-fits : (N : ℕ) (i : HeldPattern) → ((l : ℕ) → Between (pos 0) (pos top) (rateOf N i l))
@@ -254,6 +261,7 @@ fits-accepted plan ok typed = let H = held plan in let sloped : ℕ → Bool = �
   step = pattern-each plan (λ i. SFits w32 (i .step)) (fits-32 (omega whole)) (λ t l. slope-fits (sloped t) (typed t l .step));
   allocation = λ j l. omega (arith, sumℕ-one (suc (H .shape .instruments) - 1) (λ k. H .allocation (1 + k)) j (omega arith), ok .allocation);
   opening = λ k. omega (whole64, ok .opening k);
+  cost = λ j. omega (whole64, ok .cost j);
 }
 
 -- a pattern of either kind
@@ -325,4 +333,5 @@ module _ (H : Held) (tidy : Tidy H) (fits : Fits H) (g : (role j : ℕ) → Rec)
         e 6 0 (omega arith),
         shares-same 6 (shape .instruments) (H .allocation) (tidy .allocation) (fits .allocation),
         same-held 7 (shape .opened) w64 (shape .years) (H .opening) refl refl (tidy .opening) (fits .opening),
+        same-held 9 (shape .costed) w64 (shape .instruments) (H .cost) refl refl (tidy .cost) (fits .cost),
       )

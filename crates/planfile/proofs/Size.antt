@@ -60,14 +60,15 @@ module _ (H : Held) where
 
   pub length-is : length (fileOf H)
       ≡ 8 + (4 + 8 * h .years) * h .instruments + (4 + 8 * h .years) + (4 + 8 * h .years) * flag (h .opened)
-      + (4 + 4 * h .terms) + sumℕ (h .patterns) (λ t. 4 + patternSize (h .years) (H .pattern (1 + t))) + (4 + 4 * h .instruments)
+      + (4 + 8 * h .instruments) * flag (h .costed) + (4 + 4 * h .terms) + sumℕ (h .patterns) (λ t. 4 + patternSize (h .years) (H .pattern (1 + t))) + (4 + 4 * h .instruments)
   unfolding fileOf fileFrom groupsOf recordOf instrumentRec laid fileBytes nth
   length-is =
       let f = recordOf H in
       let after-6 = [] in
       let after-5 = one 6 ∷ after-6 in
       let after-4 = many 5 (h .patterns) ∷ after-5 in
-      let after-7 = one 4 ∷ after-4 in
+      let after-9 = one 4 ∷ after-4 in
+      let after-7 = many 9 (flag (h .costed)) ∷ after-9 in
       let after-3 = many 7 (flag (h .opened)) ∷ after-7 in
       let after-2 = one 3 ∷ after-3 in
       omega (
@@ -76,6 +77,7 @@ module _ (H : Held) where
         group-length f 2 (h .instruments) (8 * h .years) after-2 (λ j. length-run 8 (h .years) _),
         group-length f 3 1 (8 * h .years) after-3 (λ j. length-run 8 (h .years) _),
         group-length f 7 (flag (h .opened)) (8 * h .years) after-7 (λ j. length-run 8 (h .years) _),
+        group-length f 9 (flag (h .costed)) (8 * h .instruments) after-9 (λ j. length-run 8 (h .instruments) _),
         group-length f 4 1 (4 * h .terms) after-4 (λ j. length-run 4 (h .terms) _),
         group-sum f 5 (h .patterns) _ after-5 (λ j. pattern-length (h .years) (H .pattern (1 + j))),
         group-length f 6 1 (4 * h .instruments) after-6 (λ j. length-run 4 (h .instruments) _),

@@ -1,4 +1,5 @@
--- Checks 1 to 5, on the records of any bytes s (document 01, "Checking order"; kind 7: document 02, item 1).
+-- Checks 1 to 5, on the records of any bytes s (document 01, "Checking order"; kinds 7 and 9: document 02, items 1
+-- and 6).
 use mathlib.Core.Bool.{Bool}
 use mathlib.Core.List.{List}
 use Prim.Native.Nat.{ℕ, _+_}
@@ -7,6 +8,7 @@ use lib.ListN.{length, getD}
 use Rattle.whole.specs.Test.{both, all}
 use Rattle.records.specs.Cursor.{wholeAt, wholeFile, place, kindAt, bodyAt}
 use Rattle.plan.specs.declared.Shape.{Shape}
+use Rattle.plan.specs.Held.{flag}
 use Rattle.plan.specs.Refusal.{check, shapeOk}
 use Rattle.planfile.specs.declared.Group.{Group}
 use Rattle.planfile.specs.Kinds.{roleOf, sizeOf}
@@ -17,12 +19,21 @@ module _ (s : List ℕ) where
   unfoldable pub hasRole : (t role : ℕ) → Bool
   hasRole t role = both (wholeAt s (place s t)) (eqb (roleOf (kindAt s t)) role)
 
-  -- the shape of a file: the four numbers of its first record, and whether a kind 7 stands right after where kind 3 stands: the head, n
-  -- instruments and the outflows come before it
+  -- the shape of a file: the four numbers of its first record; whether a kind 7 stands right after where kind 3 stands: the head, n
+  -- instruments and the outflows come before it; and whether a kind 9 stands right after where kind 3 stands, or right after kind 7 where that
+  -- is there
   unfoldable pub shapeIn : Shape
   shapeIn =
       let n = getD s 5 0 in
-      record { years = getD s 4 0; instruments = n; terms = getD s 6 0; patterns = getD s 7 0; opened = hasRole (2 + n) 7 }
+      let opened = hasRole (2 + n) 7 in
+      record {
+        years = getD s 4 0;
+        instruments = n;
+        terms = getD s 6 0;
+        patterns = getD s 7 0;
+        opened = opened;
+        costed = hasRole (2 + n + flag opened) 9;
+      }
 
   -- 3: the first record is there, is a kind 1 of four bytes, and its numbers are in their ranges
   unfoldable pub firstOk : Bool

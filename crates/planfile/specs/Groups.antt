@@ -1,4 +1,5 @@
--- Which records a file has, in which order: groups of records of one role (document 01, "Plan file"; kind 7: document 02, item 1).
+-- Which records a file has, in which order: groups of records of one role (document 01, "Plan file"; kinds 7 and 9: document 02,
+-- items 1 and 6).
 use mathlib.Core.List.{List, [], _∷_, _++_}
 use Prim.Native.Nat.{ℕ, _+_, _-_}
 use lib.Dec.{ltb, eqb}
@@ -24,6 +25,7 @@ groupsOf h =
     ∷ many 2 (h .instruments)
     ∷ one 3
     ∷ many 7 (flag (h .opened))
+    ∷ many 9 (flag (h .costed))
     ∷ one 4
     ∷ many 5 (h .patterns)
     ∷ one 6
@@ -31,7 +33,7 @@ groupsOf h =
 
 -- how many groups these are
 abbrev pub groupCount : ℕ
-groupCount = 7
+groupCount = 8
 
 -- how many records the groups have
 unfoldable pub total : List Group → ℕ

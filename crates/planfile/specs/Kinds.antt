@@ -1,5 +1,5 @@
--- Each kind of record: its role and the length of its body (document 01, "Plan file"; kinds 7 and 8: document 02, items 1 and 2), from
--- kind 1 on.
+-- Each kind of record: its role and the length of its body (document 01, "Plan file"; kinds 7, 8 and 9: document 02, items 1, 2 and 6),
+-- from kind 1 on.
 use mathlib.Core.List.{List, [], _∷_}
 use Prim.Native.Nat.{ℕ, _*_, _-_}
 use Rattle.whole.specs.Entry.{nth}
@@ -16,6 +16,7 @@ roles =
     ∷ 6
     ∷ 7
     ∷ 5
+    ∷ 9
     ∷ []
 
 -- the role of a kind; 0 where the number is no kind
@@ -33,6 +34,7 @@ sizes h =
     ∷ 4 * h .instruments
     ∷ 8 * h .years
     ∷ 9
+    ∷ 8 * h .instruments
     ∷ []
 
 -- those of one kind

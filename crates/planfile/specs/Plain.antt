@@ -1,5 +1,5 @@
 -- A file that holds none of document 02's kinds is one of document 01: its checks 4 and 5, and the places of its records, are that
--- document's. Without kind 7 the places are; without kind 8 as well the kinds are.
+-- document's. Without kinds 7 and 9 the places are; without kind 8 as well the kinds are.
 use mathlib.Core.Path.{_≡_}
 use mathlib.Core.Bool.{Bool}
 use mathlib.Core.List.{List, [], _∷_}
@@ -25,11 +25,11 @@ groupsPlain h =
     ∷ []
 
 module _ (s : List ℕ) where
-  -- no kind 7 stands where it may: the file has that document's groups, by their roles and places
+  -- neither a kind 7 nor a kind 9 stands where it may: the file has that document's groups, by their roles and places
   pub record PlainFile : Type 0 where
     pub kinds : rolesOk s (groupsOf (shapeIn s)) ≡ rolesOk s (groupsPlain (shapeIn s))
     pub sizes : sizesOk s (shapeIn s) ≡ all (total (groupsPlain (shapeIn s))) (sizeOk s (shapeIn s))
-    pub places : (role j : ℕ) → (role ≡ 7 → ⊥) → placeOf (groupsOf (shapeIn s)) role j ≡ placeOf (groupsPlain (shapeIn s)) role j
+    pub places : (role j : ℕ) → (role ≡ 7 → ⊥) → (role ≡ 9 → ⊥) → placeOf (groupsOf (shapeIn s)) role j ≡ placeOf (groupsPlain (shapeIn s)) role j
 
   -- check 4 by the kinds of the records and not by their roles: they are those of the groups, and the file ends with the last of them
   unfoldable pub kindsPlain : (gs : List Group) → Bool

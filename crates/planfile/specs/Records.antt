@@ -5,7 +5,7 @@ use Rattle.whole.specs.Entry.{nth, entry}
 use Rattle.records.specs.Record.{Rec, fileBytes}
 use Rattle.records.specs.Cursor.{kindAt, bodyAt}
 use Rattle.plan.specs.declared.Shape.{Shape}
-use Rattle.plan.specs.Held.{Held, openings, unheldInstrument, unheldPattern}
+use Rattle.plan.specs.Held.{Held, openings, costs, unheldInstrument, unheldPattern}
 use Rattle.planfile.specs.Groups.{groupsOf, placeOf, none, laid}
 use Rattle.planfile.specs.Rows.{rec, amountsIn, amountsBytes, sharesIn, sharesBytes, headRec, instrumentIn, instrumentRec, patternIn, patternRec}
 use Rattle.planfile.specs.Checks.{shapeIn}
@@ -30,9 +30,10 @@ heldOf h g = record {
   pattern = entry unheldPattern (h .patterns) (λ t. patternIn (h .years) (g 5 t));
   allocation = sharesIn (h .instruments) (g 6 0);
   opening = amountsIn (openings h) (g 7 0);
+  cost = amountsIn (costs h) (g 9 0);
 }
 
--- record j of a role, from role 1 on
+-- record j of a role, from role 1 on; 8 is none, since a slope stands where role 5 does
 unfoldable pub recordOf : Held → (role j : ℕ) → Rec
 recordOf H role j =
     let h = H .shape in
@@ -44,6 +45,8 @@ recordOf H role j =
     ∷ patternRec (h .years) (H .pattern (1 + j))
     ∷ rec 6 (sharesBytes (h .instruments) (H .allocation))
     ∷ rec 7 (amountsBytes (h .years) (H .opening))
+    ∷ none
+    ∷ rec 9 (amountsBytes (h .instruments) (H .cost))
     ∷ [])
     role
 

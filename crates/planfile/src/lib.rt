@@ -31,7 +31,7 @@ pub struct Spot {
 }
 
 // How many groups of records a file has.
-const GROUPS: usize = 7;
+const GROUPS: usize = 8;
 
 // The role of a kind: the first kind that may stand where it stands; 0 where the number is no kind.
 pub fn role_of(kind: usize) -> usize
@@ -47,7 +47,8 @@ pub fn role_of(kind: usize) -> usize
         6 => 6,
         7 => 7,
         8 => 5,
-        9.. => 0, // and no kind
+        9 => 9,
+        10.. => 0, // and no kind
     }
 }
 
@@ -66,7 +67,8 @@ pub fn size_of(shape: Shape, kind: usize) -> usize
         6 => 4 * shape.instruments,
         7 => 8 * shape.years,
         8 => 9,
-        9.. => 0,
+        9 => 8 * shape.instruments,
+        10.. => 0,
     }
 }
 
@@ -84,6 +86,10 @@ pub fn groups_of(shape: Shape) -> [Group; GROUPS]
         Group {
             role: 7,
             count: plan::flag(shape.opened),
+        },
+        Group {
+            role: 9,
+            count: plan::flag(shape.costed),
         },
         Group { role: 4, count: 1 },
         Group {

@@ -7,7 +7,7 @@ use Rattle.whole.proofs.Entry.{entry-own}
 use Rattle.whole.proofs.Test.{all-yes}
 use Rattle.plan.specs.Held.{Held}
 use Rattle.plan.specs.Numbers.{Numbers, rateIn, meaning}
-use Rattle.plan.specs.Refusal.{check, firstOf, headOk, paymentsOk, paymentsFit, outflowsOk, openingOk, amountsOk, rolloverOk, untilsOk, ratesOk, ratesFit, allocationOk, headRefusal, amountsRefusal, ratesRefusal, allocationRefusal, refusalOf, refusalWith}
+use Rattle.plan.specs.Refusal.{check, firstOf, headOk, paymentsOk, paymentsFit, outflowsOk, openingOk, costOk, amountsOk, rolloverOk, untilsOk, ratesOk, ratesFit, allocationOk, headRefusal, amountsRefusal, ratesRefusal, allocationRefusal, refusalOf, refusalWith}
 use Rattle.planner.specs.Calls.{callRefusal, fundAnswer, boundOf, boundAnswer, formAnswer, gammasAnswer}
 use Rattle.planner.specs.Verdict.{patternWord, rowOf, verdictRefusal, shortBits, planWord, verdictAnswer, rowsOf, judgementOf}
 use Rattle.planner.specs.Alike.{spelledOut, meant, SameAnswers, Alike}
@@ -28,12 +28,12 @@ module _ (P : Numbers) (no : refusalOf P ≡ 13 → ⊥) where
   untils-meant = all-yes (P .patterns) _ (λ t h. refl)
 
   pub refusal-meant : refusalOf P ≡ refusalOf (meant P)
-  unfolding refusalOf headRefusal amountsRefusal ratesRefusal allocationRefusal headOk paymentsOk paymentsFit outflowsOk openingOk amountsOk rolloverOk ratesOk ratesFit allocationOk
+  unfolding refusalOf headRefusal amountsRefusal ratesRefusal allocationRefusal headOk paymentsOk paymentsFit outflowsOk openingOk costOk amountsOk rolloverOk ratesOk ratesFit allocationOk
   refusal-meant = rw untils-meant (drop-13 (headRefusal P) (amountsRefusal P) (untilsOk P) (ratesOk P) (allocationRefusal P) (allocationRefusal P) no)
 
   -- and of a call with lists
   pub refusal-with-meant : (lists : ℕ) → refusalWith P lists ≡ refusalWith (meant P) lists
-  unfolding refusalOf refusalWith headRefusal amountsRefusal ratesRefusal allocationRefusal headOk paymentsOk paymentsFit outflowsOk openingOk amountsOk rolloverOk ratesOk ratesFit
+  unfolding refusalOf refusalWith headRefusal amountsRefusal ratesRefusal allocationRefusal headOk paymentsOk paymentsFit outflowsOk openingOk costOk amountsOk rolloverOk ratesOk ratesFit
       allocationOk
   refusal-with-meant lists = rw untils-meant (drop-13 (headRefusal P) (amountsRefusal P) (untilsOk P) (ratesOk P) (allocationRefusal P) (firstOf lists (allocationRefusal P)) no)
 
@@ -76,6 +76,8 @@ rated P i = record {
   p = P .p;
   b = P .b;
   T = λ t. 1;
+  cost = P .cost;
+  costed = P .costed;
 }
 
 -- a list of the rates that a pattern means has just these, and no T that check 13 looks at

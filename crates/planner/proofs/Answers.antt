@@ -4,7 +4,7 @@ use mathlib.Core.Path.{_≡_, refl, sym, ap, _∙_}
 use mathlib.Core.Bool.{true, false}
 use Prim.Native.Nat.{ℕ, _≤_}
 use native.Mathlib.Omega.{arith}
-use lib.IntN.{ℤ}
+use lib.IntN.{ℤ, _+ℤ_}
 use Rattle.whole.specs.Test.{isFrom}
 use Rattle.whole.proofs.Test.{picked-yes, picked-no, picked-is, from-low, from-high}
 use Rattle.reckoning.specs.Reckoning.{fund}
@@ -56,19 +56,19 @@ module _ {A : Type 0} (refused : ℕ → A) {number : ℕ} where
   pub out-accepted : {s x : A} → number ≡ 0 → x ≡ s → x ≡ answer refused number s
   out-accepted {s} e f = f ∙ sym (answer-accepted refused number s e)
 
--- ---- what the core's answer for a flow f tells
-module _ (r : ℕ → ℕ) (i f : ℕ → ℤ) (N : ℕ) {s : Reckoned} (e : s ≡ fundReckoned r i f N) where
-  pub reckoned-refused : (s .refusal ≡ 0 → ⊥) → fundFits r i f N ≡ false
+-- ---- what the core's answer for a flow f, with an amount left at the horizon, tells
+module _ (r : ℕ → ℕ) (i f : ℕ → ℤ) (N : ℕ) (left : ℤ) {s : Reckoned} (e : s ≡ fundReckoned r i f N left) where
+  pub reckoned-refused : (s .refusal ≡ 0 → ⊥) → fundFits r i f N left ≡ false
   unfolding fundReckoned
-  reckoned-refused = picked-no (λ (s : Reckoned). s .refusal) _ _ refl (λ z. omega arith) (fundFits r i f N) s e
+  reckoned-refused = picked-no (λ (s : Reckoned). s .refusal) _ _ refl (λ z. omega arith) (fundFits r i f N left) s e
 
-  pub reckoned-fits : s .refusal ≡ 0 → fundFits r i f N ≡ true
+  pub reckoned-fits : s .refusal ≡ 0 → fundFits r i f N left ≡ true
   unfolding fundReckoned
-  reckoned-fits = picked-yes (λ (s : Reckoned). s .refusal) _ _ refl (λ z. omega arith) (fundFits r i f N) s e
+  reckoned-fits = picked-yes (λ (s : Reckoned). s .refusal) _ _ refl (λ z. omega arith) (fundFits r i f N left) s e
 
-  pub reckoned-is : s .refusal ≡ 0 → s .fund ≡ fund r i N f
+  pub reckoned-is : s .refusal ≡ 0 → s .fund ≡ fund r i N f +ℤ left
   unfolding fundReckoned
-  reckoned-is h = ap (λ (s : Reckoned). s .fund) (picked-is (λ (s : Reckoned). s .refusal) _ _ refl (λ z. omega arith) (fundFits r i f N) s e h)
+  reckoned-is h = ap (λ (s : Reckoned). s .fund) (picked-is (λ (s : Reckoned). s .refusal) _ _ refl (λ z. omega arith) (fundFits r i f N left) s e h)
 
 -- ---- plans that hold the same are answered alike: no answer sees more of a plan than its numbers
 pub answered-alike : {A : Type 0} (answered : Numbers → A) (x y : Plan) → held x ≡ held y → answered (numbers x) ≡ answered (numbers y)

@@ -21,12 +21,12 @@ use Rattle.reckoning.proofs.Pattern.{amount-at}
 use Rattle.plan.specs.Numbers.{numbers}
 use Rattle.plan.specs.Refusal.{Accepted}
 use Rattle.plan.specs.declared.Plan.{Plan}
-use Rattle.plan.proofs.Held.{outflow-is, opening-is}
+use Rattle.plan.proofs.Held.{held-at, outflow-is, opening-is}
 use Rattle.planner.specs.Calls.{Shared, sharedOf, flowOf}
 use Rattle.planner.specs.Arrays.{sharedIn, columnOf, Weighable, Prepared}
 use Rattle.planner.specs.declared.Common.{Common}
 use Rattle.planner.proofs.Held.{constant-within}
-use Rattle.planner.proofs.Weighing.{weighedBy}
+use Rattle.planner.proofs.Weighing.{weighedBy, costIn}
 
 -- ---- the flow of Q in year 1 + k: what money already invested pays, where it is held, less the outflow
 abbrev pub constantIn : (opened : Bool) (b o : List ℤ) (k : ℕ) → ℤ
@@ -46,6 +46,9 @@ module _ {c : Common} {rows : List (List ℤ)} (ok : Prepared c rows) where
 
   pub part-at : (j : ℕ) → j < c .instruments → S .p (1 + j) ≡ getD (c .allocation) j 0
   part-at = entry-at 0 (c .instruments) (λ j. getD (c .allocation) j 0)
+
+  pub cost-at : (j : ℕ) → j < c .instruments → S .cost (1 + j) ≡ costIn (c .costed) (c .cost) j
+  cost-at = held-at (c .costed) (c .instruments) (λ j. getD (c .cost) j (pos 0))
 
   -- row j as a flow
   pub row-flow : (j : ℕ) → j < c .instruments → (k : ℕ) → S .a k (1 + j) ≡ amountsOf (getD rows j []) k

@@ -1,5 +1,5 @@
--- The starred cases of document 01, computed: one joint result over their list, and one each over those of money already invested and
--- of slopes.
+-- The starred cases of document 01, computed: one joint result over their list, and one each over those of money already invested, of the
+-- cost at the horizon and of slopes.
 use mathlib.Core.Path.{_≡_, refl}
 use mathlib.Core.Bool.{true}
 use mathlib.Core.List.{List·Memᴰ}
@@ -10,26 +10,27 @@ use Rattle.whole.specs.Entry.{nth, cut, entry}
 use Rattle.whole.specs.Test.{all, isBetween, isSame}
 use Rattle.whole.specs.Case.{Case, agree, shareCases}
 use Rattle.whole.proofs.Case.{agree-at, agree-join, shares-agree}
-use Rattle.reckoning.specs.Reckoning.{w, paid, flow, sent, alpha-step, alpha, fund}
-use Rattle.reckoning.specs.Exact.{x}
+use Rattle.reckoning.specs.Reckoning.{w, paid, left, flow, sent, alpha-step, alpha, fund}
+use Rattle.reckoning.specs.Exact.{x, C, E-step, E, H, withLeft}
 use Rattle.reckoning.specs.Bound.{h, ceiling, G, B}
+use Rattle.reckoning.specs.Arrays.{alphasFit, fundFits, fundReckoned}
 use Rattle.reckoning.specs.Case.{boundCases, gammaCases}
 use Rattle.reckoning.proofs.Case.{bounds-agree, gammas-agree}
-use Rattle.plan.specs.Held.{instrumentsHeld, outflowsHeld, rolloverHeld, patternsHeld, allocationHeld, openingHeld}
+use Rattle.plan.specs.Held.{instrumentsHeld, outflowsHeld, rolloverHeld, patternsHeld, allocationHeld, openingHeld, costHeld}
 use Rattle.plan.specs.Numbers.{slope}
-use Rattle.plan.specs.Refusal.{headOk, paymentsOk, paymentsFit, outflowsOk, openingOk, amountsOk, rolloverOk, untilsOk, ratesOk, ratesFit, allocationOk, headRefusal, amountsRefusal, ratesRefusal, allocationRefusal, refusalOf}
-use Rattle.plan.specs.Case.{nearL, planL, renewed, oneYear, fourYears}
-use Rattle.planner.specs.Calls.{flowOf, exactFlowOf, fundAt, boundAt, constantAt}
+use Rattle.plan.specs.Refusal.{headOk, paymentsOk, paymentsFit, outflowsOk, openingOk, costOk, amountsOk, rolloverOk, untilsOk, ratesOk, ratesFit, allocationOk, headRefusal, amountsRefusal, ratesRefusal, allocationRefusal, refusalOf}
+use Rattle.plan.specs.Case.{nearL, planL, renewed, oneYear, longer, farOut, fourYears}
+use Rattle.planner.specs.Calls.{flowOf, exactFlowOf, exactLeftOf, leftOf, exactAt, fundAt, boundAt, coefficientAt, constantAt, callRefusal, exactFund, fundAnswer, boundOf}
 use Rattle.planner.specs.Verdict.{wordOf, wordAt, fundOf, patternWord}
-use Rattle.planner.specs.Case.{fundCases, wordCases, starredCases, openingCases, slopeCases, slopeRefusals}
+use Rattle.planner.specs.Case.{fundCases, wordCases, starredCases, openingCases, costCases, costLimits, slopeCases, slopeRefusals}
 
 funds-agree : agree fundCases ≡ true
-unfolding agree fundCases isSame isBetween fundOf fundAt flowOf instrumentsHeld outflowsHeld rolloverHeld patternsHeld allocationHeld openingHeld fund alpha alpha-step sent flow paid w floor
+unfolding agree fundCases isSame isBetween fundOf fundAt flowOf instrumentsHeld outflowsHeld rolloverHeld patternsHeld allocationHeld openingHeld costHeld exactLeftOf leftOf left fund alpha alpha-step sent flow paid w floor
     shareOf sum sumℕ course history nth cut entry planL nearL
 funds-agree = refl
 
 words-agree : agree wordCases ≡ true
-unfolding agree wordCases isSame isBetween patternWord wordAt wordOf fundAt boundAt flowOf instrumentsHeld outflowsHeld rolloverHeld patternsHeld allocationHeld openingHeld fund alpha
+unfolding agree wordCases isSame isBetween patternWord wordAt wordOf fundAt boundAt flowOf instrumentsHeld outflowsHeld rolloverHeld patternsHeld allocationHeld openingHeld costHeld exactLeftOf leftOf left fund alpha
     alpha-step sent flow paid w floor shareOf h ceiling G B sum sumℕ largest course history nth cut entry oneYear renewed
 words-agree = refl
 
@@ -46,21 +47,41 @@ starred c = agree-at starredCases c all-agree
 
 openings-agree : agree openingCases ≡ true
 unfolding agree openingCases isSame isBetween patternWord wordAt wordOf fundAt boundAt constantAt flowOf exactFlowOf instrumentsHeld outflowsHeld rolloverHeld patternsHeld
-    allocationHeld openingHeld fund alpha alpha-step sent flow x paid w floor shareOf h ceiling G B sum sumℕ largest course history nth cut entry renewed
+    allocationHeld openingHeld costHeld exactLeftOf leftOf left fund alpha alpha-step sent flow x paid w floor shareOf h ceiling G B sum sumℕ largest course history nth cut entry renewed
 openings-agree = refl
 
 -- and in those of money already invested
 pub opening-stated : (c : Case) → List·Memᴰ c openingCases → c .given ≡ c .stated
 opening-stated c = agree-at openingCases c openings-agree
 
+costs-agree : agree costCases ≡ true
+unfolding agree costCases isSame isBetween all patternWord wordAt wordOf fundOf fundAt boundOf boundAt exactFund exactAt withLeft H E E-step C coefficientAt constantAt flowOf exactFlowOf instrumentsHeld
+    outflowsHeld rolloverHeld patternsHeld allocationHeld openingHeld costHeld exactLeftOf leftOf left fund alpha alpha-step sent flow x paid w floor shareOf h ceiling G B refusalOf headRefusal
+    amountsRefusal ratesRefusal allocationRefusal headOk paymentsOk paymentsFit outflowsOk openingOk costOk amountsOk rolloverOk untilsOk ratesOk ratesFit allocationOk sum sumℕ largest course
+    history nth cut entry longer
+costs-agree = refl
+
+limits-agree : agree costLimits ≡ true
+unfolding agree costLimits isSame isBetween all fundAnswer callRefusal fundReckoned fundFits alphasFit flowOf instrumentsHeld outflowsHeld rolloverHeld patternsHeld allocationHeld openingHeld costHeld
+    exactLeftOf leftOf left fund alpha alpha-step sent flow paid w floor shareOf refusalOf headRefusal amountsRefusal ratesRefusal allocationRefusal headOk paymentsOk paymentsFit outflowsOk openingOk
+    costOk amountsOk rolloverOk untilsOk ratesOk ratesFit allocationOk sum sumℕ course history nth cut entry farOut
+limits-agree = refl
+
+-- and in those of the cost
+pub cost-stated : (c : Case) → List·Memᴰ c costCases → c .given ≡ c .stated
+cost-stated c = agree-at costCases c costs-agree
+
+pub cost-limited : (c : Case) → List·Memᴰ c costLimits → c .given ≡ c .stated
+cost-limited c = agree-at costLimits c limits-agree
+
 slopes-agree : agree slopeCases ≡ true
-unfolding agree slopeCases isSame isBetween fundOf fundAt flowOf instrumentsHeld outflowsHeld rolloverHeld patternsHeld allocationHeld openingHeld slope fund alpha alpha-step sent flow
+unfolding agree slopeCases isSame isBetween fundOf fundAt flowOf instrumentsHeld outflowsHeld rolloverHeld patternsHeld allocationHeld openingHeld costHeld exactLeftOf leftOf left slope fund alpha alpha-step sent flow
     paid w floor shareOf sum sumℕ course history nth cut entry fourYears
 slopes-agree = refl
 
 slope-refusals-agree : agree slopeRefusals ≡ true
-unfolding agree slopeRefusals isSame isBetween all instrumentsHeld outflowsHeld rolloverHeld patternsHeld allocationHeld openingHeld slope refusalOf headRefusal amountsRefusal
-    ratesRefusal allocationRefusal headOk paymentsOk paymentsFit outflowsOk openingOk amountsOk rolloverOk untilsOk ratesOk ratesFit allocationOk sumℕ nth cut entry fourYears
+unfolding agree slopeRefusals isSame isBetween all instrumentsHeld outflowsHeld rolloverHeld patternsHeld allocationHeld openingHeld costHeld slope refusalOf headRefusal amountsRefusal
+    ratesRefusal allocationRefusal headOk paymentsOk paymentsFit outflowsOk openingOk costOk amountsOk rolloverOk untilsOk ratesOk ratesFit allocationOk sumℕ nth cut entry fourYears
 slope-refusals-agree = refl
 
 -- and in those of slopes

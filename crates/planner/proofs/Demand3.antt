@@ -11,17 +11,19 @@ use lib.ListN.{getD}
 use lib.IntN.{ℤ, pos, zero-*ℤ}
 use lib.Signed.{_≤ℤ_, _<ℤ_}
 use Rattle.whole.specs.Range.{million}
+use Rattle.whole.specs.Floor.{floor}
 use Rattle.whole.specs.Sum.{Σℕ}
 use Rattle.whole.specs.Test.{both}
 use Rattle.whole.proofs.Bridge.{whole}
 use Rattle.whole.proofs.Range.{within-abs}
 use Rattle.whole.proofs.Test.{picked-is, from-yes, all-yes, le-leZ}
 use Rattle.whole.proofs.Table.{table-at}
-use Rattle.reckoning.specs.Theorem.{Given, FromBelow, noneNegative, Close}
+use Rattle.reckoning.specs.Reckoning.{left}
+use Rattle.reckoning.specs.Theorem.{Given, Rounded, FromBelow, noneNegative, Close}
 use Rattle.reckoning.specs.declared.Reckoned.{Reckoned}
 use Rattle.reckoning.proofs.Pattern.{shares-le}
-use Rattle.reckoning.proofs.Theorem.{fund-close, form-close, amounts-close, flow-floors, H-parts, exactly-solvent, exactly-short}
-use Rattle.plan.specs.Held.{PlainHeld, held}
+use Rattle.reckoning.proofs.Theorem.{fund-close, form-close, amounts-close, constant-close, flow-floors, left-rounded, none-rounded, left-parts, exactly-solvent, exactly-short}
+use Rattle.plan.specs.Held.{flag, PlainHeld, held}
 use Rattle.plan.specs.Numbers.{Numbers, numbers}
 use Rattle.plan.specs.Refusal.{refusalOf, Accepted}
 use Rattle.plan.specs.declared.Plan.{Plan}
@@ -33,6 +35,8 @@ use Rattle.planner.specs.Calls.{
   sharedOf,
   flowOf,
   exactFlowOf,
+  exactLeftOf,
+  leftOf,
   exactAt,
   fundAt,
   boundAt,
@@ -66,7 +70,7 @@ use Rattle.planner.specs.Verdict.{
   verdictAnswer,
 }
 use Rattle.planner.specs.Demand3.{FundNear, FormNear, ShortPattern, VerdictTrue}
-use Rattle.planner.specs.Plain.{PlainFlow, Plain}
+use Rattle.planner.specs.Plain.{PlainFlow, PlainHorizon, Plain}
 use Rattle.planner.specs.Alike.{Alike}
 use Rattle.planner.specs.declared.FormAnswer.{FormAnswer}
 use Rattle.planner.specs.declared.VerdictAnswer.{VerdictAnswer}
@@ -74,7 +78,8 @@ use Rattle.planner.proofs.Held.{terms, rollover-held}
 use Rattle.planner.proofs.Answers.{refused-none, called, reckoned-is}
 use Rattle.planner.proofs.Bits.{Lowest, bits-lowest}
 use Rattle.planner.proofs.VerdictLaws.{verdictBy, word-solvent, word-short, plan-solvent, plan-short}
-use Rattle.planner.proofs.Plain.{flow-plan, plain-plan}
+use Rattle.planner.proofs.Weighing.{no-left}
+use Rattle.planner.proofs.Plain.{flow-plan, horizon-plan, plain-plan}
 use Rattle.planner.proofs.Alike.{alike}
 
 module _ (plan : Plan) (t : ℕ) where
@@ -91,15 +96,25 @@ module _ (plan : Plan) (t : ℕ) where
     }
 
     -- the fund with B, and the form's value with 2 B + 1, whatever the signs of the rates
+    -- what is left is cut by less than one amount where the cost is held, and is nothing where it is not
+    left-cut : Rounded (flag (P .costed)) (exactLeftOf (sharedOf P)) (leftOf (sharedOf P))
+    unfolding exactLeftOf leftOf
+    left-cut = go (P .costed) refl
+      where
+        go : (costed : Bool) → P .costed ≡ costed → Rounded (flag costed) (left (P .instruments) (P .cost) (P .p)) (floor (left (P .instruments) (P .cost) (P .p)) million)
+        go true e = left-rounded _
+        go false e = rw (no-left (P .instruments) (P .p) (ok .uncosted e)) none-rounded
+
     pub pattern-fund-close : Close (P .i t) (P .years) (exactFund P t) (fundOf P t) (boundOf P t)
     unfolding exactFund exactAt exactFlowOf flowOf fundOf fundAt boundOf boundAt
-    pattern-fund-close = fund-close given _ _ (flow-floors (P .instruments) (P .a) (sharedOf P .constantFlow) (P .p))
+    pattern-fund-close = fund-close given _ _ (flow-floors (P .instruments) (P .a) (sharedOf P .constantFlow) (P .p)) left-cut
 
     pub pattern-form-close : Close (P .i t) (P .years) (exactFund P t) (valueAt (sharedOf P) (P .i t)) (2 * boundOf P t + 1)
-    unfolding exactFund exactAt exactFlowOf valueAt coefficientAt constantAt boundOf boundAt
+    unfolding exactFund exactAt exactFlowOf exactLeftOf valueAt coefficientAt constantAt boundOf boundAt
     pattern-form-close =
-        form-close (P .instruments) (P .p) (ok .allocation) (λ j. amounts-close given (λ k. P .a k j)) (amounts-close given (sharedOf P .constantFlow))
-        (H-parts (P .r) (P .i t) (P .years) (P .instruments) (P .a) (sharedOf P .constantFlow) (P .p))
+        let e = flag (P .costed) in
+        form-close (P .instruments) (P .p) (ok .allocation) (λ j. amounts-close given e (λ k. P .a k j) (P .cost j)) (constant-close given e (sharedOf P .constantFlow))
+        (left-parts (P .r) (P .i t) (P .years) (P .instruments) (P .a) (sharedOf P .constantFlow) (P .cost) (P .p))
 
     -- check 8 takes no rate below zero, so both are from below
     none-negative : noneNegative (P .i t) (P .years) ≡ true
@@ -125,7 +140,7 @@ module _ (plan : Plan) (t : ℕ) where
 
     fund-is : fundAnswer P t .fund ≡ fundOf P t
     unfolding fundAnswer fundOf fundAt
-    fund-is = reckoned-is (P .r) (P .i t) (flowOf (sharedOf P)) (P .years) (answer-accepted noFund (callRefusal P t) _ fund-called) e
+    fund-is = reckoned-is (P .r) (P .i t) (flowOf (sharedOf P)) (P .years) (leftOf (sharedOf P)) (answer-accepted noFund (callRefusal P t) _ fund-called) e
 
   pub fund-near : FundNear P t (fundAnswer P t)
   fund-near = record { near = λ e. rw (fund-is e) (fund-below (called plan t (fund-called e) .plan-ok)); bound = λ e. bound-is (fund-called e) }
@@ -227,5 +242,5 @@ module _ (plan : Plan) where
     plan-short = some-short;
   }
 
-  pub verdict-answered : {s : VerdictAnswer} → s ≡ verdictAnswer (numbers plan) → (s ≡ verdictAnswer (numbers plan)) × (VerdictTrue (numbers plan) s × ((plan .opened ≡ false → PlainFlow (numbers plan)) × ((PlainHeld (held plan) → Plain (held plan)) × Alike (held plan))))
-  verdict-answered e = (e, (subst (VerdictTrue (numbers plan)) (sym e) verdict-true, (flow-plan plan, (plain-plan plan, alike (held plan)))))
+  pub verdict-answered : {s : VerdictAnswer} → s ≡ verdictAnswer (numbers plan) → (s ≡ verdictAnswer (numbers plan)) × (VerdictTrue (numbers plan) s × ((plan .opened ≡ false → PlainFlow (numbers plan)) × ((plan .costed ≡ false → PlainHorizon (numbers plan)) × ((PlainHeld (held plan) → Plain (held plan)) × Alike (held plan)))))
+  verdict-answered e = (e, (subst (VerdictTrue (numbers plan)) (sym e) verdict-true, (flow-plan plan, (horizon-plan plan, (plain-plan plan, alike (held plan))))))

@@ -4,7 +4,7 @@ use mathlib.Core.List.{List}
 use Prim.Native.Nat.{ℕ, _+_, _*_, _<_}
 use native.Mathlib.Omega.{arith}
 use lib.ListN.{getD}
-use lib.IntN.{ℤ, pos, _+ℤ_, _*ℤ_}
+use lib.IntN.{ℤ, pos, _+ℤ_, _*ℤ_, +ℤ-idr}
 use mir.Syntax.{w64}
 use mir.Val.{SFits}
 use Rattle.whole.specs.Range.{million, limit, Within}
@@ -28,9 +28,9 @@ use Rattle.planner.proofs.FormLoops.{coefficients-refused, coefficients
 use Rattle.planner.proofs.Answers.{reckoned-refused, reckoned-fits, reckoned-is}
 
 -- ---- Q
-pub constant-is : (S : Shared) (i : ℕ → ℤ) {d : Reckoned} → d ≡ fundReckoned (S .r) i (S .constantFlow) (S .years) → d .refusal ≡ 0 → d .fund ≡ constantAt S i
+pub constant-is : (S : Shared) (i : ℕ → ℤ) {d : Reckoned} → d ≡ fundReckoned (S .r) i (S .constantFlow) (S .years) (pos 0) → d .refusal ≡ 0 → d .fund ≡ constantAt S i
 unfolding constantAt
-constant-is S i = reckoned-is (S .r) i (S .constantFlow) (S .years)
+constant-is S i e h = reckoned-is (S .r) i (S .constantFlow) (S .years) (pos 0) e h ∙ +ℤ-idr _
 
 -- ---- the ways out
 module _ (S : Shared) (i : ℕ → ℤ) {c : Coefficients} (e : c ≡ coefficientsReckoned S i) where
@@ -38,16 +38,16 @@ module _ (S : Shared) (i : ℕ → ℤ) {c : Coefficients} (e : c ≡ coefficien
   unfolding formReckoned
   form-unmade h = rw (coefficients-refused S i e h)
 
-  module _ {d : Reckoned} (u : d ≡ fundReckoned (S .r) i (S .constantFlow) (S .years)) where
+  module _ {d : Reckoned} (u : d ≡ fundReckoned (S .r) i (S .constantFlow) (S .years) (pos 0)) where
     pub form-unbalanced : (d .refusal ≡ 0 → ⊥) → noForm 11 ≡ formReckoned S i
     unfolding formReckoned constantFits
-    form-unbalanced h = rw (reckoned-refused (S .r) i (S .constantFlow) (S .years) u h, both-not (coefficientsFit S i))
+    form-unbalanced h = rw (reckoned-refused (S .r) i (S .constantFlow) (S .years) (pos 0) u h, both-not (coefficientsFit S i))
 
     pub form-made : c .refusal ≡ 0 → d .refusal ≡ 0 → {z : ℤ} → z ≡ valueAt S i → record { refusal = 0; coefficients = c .values; constant = d .fund; value = z } ≡ formReckoned S i
     unfolding formReckoned constantFits
     form-made g h z-is = rw (
       coefficients-fit S i e g,
-      reckoned-fits (S .r) i (S .constantFlow) (S .years) u h,
+      reckoned-fits (S .r) i (S .constantFlow) (S .years) (pos 0) u h,
       coefficients-are S i e g,
       constant-is S i u h,
       z-is,

@@ -1,11 +1,11 @@
--- The loop of the coefficients: the funds of n flows, one after the other, unless check 11 refuses one.
-use mathlib.Core.Path.{_≡_, refl, sym, ap, _∙_, fun-ext}
+-- The loop of the coefficients: the funds of n flows, each with its cost, one after the other, unless check 11 refuses one.
+use mathlib.Core.Path.{_≡_, refl, sym, ap, ap₂, _∙_, fun-ext}
 use mathlib.Core.Bool.{true, false}
 use mathlib.Core.List.{List}
 use Prim.Native.Nat.{ℕ, _+_, _≤_, _<_}
 use native.Mathlib.Omega.{arith}
 use lib.ListN.{set, replicate}
-use lib.IntN.{ℤ, pos}
+use lib.IntN.{ℤ, pos, _+ℤ_}
 use Rattle.whole.specs.Test.{all}
 use Rattle.whole.proofs.Filling.{Filling, fill-start, fill-turn, fill-as}
 use Rattle.whole.proofs.Test.{picked-yes, picked-no, picked-is, all-none, all-more, all-end, all-fails, all-cong}
@@ -17,39 +17,42 @@ use Rattle.planner.specs.Rows.{coefficientsReckoned}
 use Rattle.planner.specs.declared.Coefficients.{Coefficients}
 use Rattle.planner.proofs.Answers.{reckoned-refused, reckoned-fits, reckoned-is}
 
--- k has the funds of the flows f 0 to f (j - 1), and check 11 takes them
-pub record Funded (r : ℕ → ℕ) (i : ℕ → ℤ) (f : ℕ → ℕ → ℤ) (N n : ℕ) (k : List ℤ) (j : ℕ) : Type 0 where
-  pub filled : Filling 16 n (λ j. fund r i N (f j)) (pos 0) k j
-  pub fit : all j (λ j. fundFits r i (f j) N) ≡ true
+-- k has the funds of the flows f 0 to f (j - 1), each with the cost at its place, and check 11 takes them
+pub record Funded (r : ℕ → ℕ) (i : ℕ → ℤ) (f : ℕ → ℕ → ℤ) (cost : ℕ → ℤ) (N n : ℕ) (k : List ℤ) (j : ℕ) : Type 0 where
+  pub filled : Filling 16 n (λ j. fund r i N (f j) +ℤ cost j) (pos 0) k j
+  pub fit : all j (λ j. fundFits r i (f j) N (cost j)) ≡ true
 
-pub funds-start : {r : ℕ → ℕ} {i : ℕ → ℤ} {f : ℕ → ℕ → ℤ} {N n : ℕ} → Funded r i f N n (replicate 16 (pos 0)) 0
+pub funds-start : {r : ℕ → ℕ} {i : ℕ → ℤ} {f : ℕ → ℕ → ℤ} {cost : ℕ → ℤ} {N n : ℕ} → Funded r i f cost N n (replicate 16 (pos 0)) 0
 funds-start = record { filled = fill-start; fit = all-none _ }
 
-module _ {r : ℕ → ℕ} {i : ℕ → ℤ} {f : ℕ → ℕ → ℤ} {N n j : ℕ} where
-  pub funds-turn : {k : List ℤ} {s : Reckoned} → n ≤ 16 → j < n → Funded r i f N n k j → s ≡ fundReckoned r i (f j) N → s .refusal ≡ 0 → Funded r i f N n (set k j (s .fund)) (j + 1)
+module _ {r : ℕ → ℕ} {i : ℕ → ℤ} {f : ℕ → ℕ → ℤ} {cost : ℕ → ℤ} {N n j : ℕ} where
+  pub funds-turn : {k : List ℤ} {s : Reckoned} → n ≤ 16 → j < n → Funded r i f cost N n k j → s ≡ fundReckoned r i (f j) N (cost j) → s .refusal ≡ 0
+      → Funded r i f cost N n (set k j (s .fund)) (j + 1)
   funds-turn few l a e h = record {
-    filled = fill-turn few l (a .filled) (reckoned-is r i (f j) N e h);
-    fit = all-more j (λ j. fundFits r i (f j) N) (a .fit) (reckoned-fits r i (f j) N e h);
+    filled = fill-turn few l (a .filled) (reckoned-is r i (f j) N (cost j) e h);
+    fit = all-more j (λ j. fundFits r i (f j) N (cost j)) (a .fit) (reckoned-fits r i (f j) N (cost j) e h);
   }
 
--- ---- the flows are the payments of the instruments
-module _ (S : Shared) (i : ℕ → ℤ) {f : ℕ → ℕ → ℤ} (same : (j : ℕ) → j < S .instruments → (k : ℕ) → S .a k (1 + j) ≡ f j k) where
+-- ---- the flows are the payments of the instruments, and the costs are theirs
+module _ (S : Shared) (i : ℕ → ℤ) {f : ℕ → ℕ → ℤ} {cost : ℕ → ℤ} (same : (j : ℕ) → j < S .instruments → (k : ℕ) → S .a k (1 + j) ≡ f j k)
+    (same-cost : (j : ℕ) → j < S .instruments → S .cost (1 + j) ≡ cost j) where
   flow-same : (j : ℕ) → j < S .instruments → f j ≡ (λ k. S .a k (1 + j))
   flow-same j h = fun-ext (λ k. sym (same j h k))
 
-  all-fit : all (S .instruments) (λ j. fundFits (S .r) i (f j) (S .years)) ≡ coefficientsFit S i
+  all-fit : all (S .instruments) (λ j. fundFits (S .r) i (f j) (S .years) (cost j)) ≡ coefficientsFit S i
   unfolding coefficientsFit
-  all-fit = all-cong (S .instruments) _ _ (λ j h. ap (λ (f : ℕ → ℤ). fundFits (S .r) i f (S .years)) (flow-same j h))
+  all-fit = all-cong (S .instruments) _ _ (λ j h. ap₂ (λ (f : ℕ → ℤ) (z : ℤ). fundFits (S .r) i f (S .years) z) (flow-same j h) (sym (same-cost j h)))
 
-  pub funds-refuse : {j : ℕ} → j < S .instruments → {s : Reckoned} → s ≡ fundReckoned (S .r) i (f j) (S .years) → (s .refusal ≡ 0 → ⊥) → record { refusal = 11; values = replicate 16 (pos 0) } ≡ coefficientsReckoned S i
+  pub funds-refuse : {j : ℕ} → j < S .instruments → {s : Reckoned} → s ≡ fundReckoned (S .r) i (f j) (S .years) (cost j) → (s .refusal ≡ 0 → ⊥)
+      → record { refusal = 11; values = replicate 16 (pos 0) } ≡ coefficientsReckoned S i
   unfolding coefficientsReckoned
-  funds-refuse {j} l e h = rw (sym all-fit ∙ all-fails (S .instruments) (λ j. fundFits (S .r) i (f j) (S .years)) j l (reckoned-refused (S .r) i (f j) (S .years) e h))
+  funds-refuse {j} l e h = rw (sym all-fit ∙ all-fails (S .instruments) (λ j. fundFits (S .r) i (f j) (S .years) (cost j)) j l (reckoned-refused (S .r) i (f j) (S .years) (cost j) e h))
 
-  pub funds-end : {k : List ℤ} {j : ℕ} → S .instruments ≤ j → Funded (S .r) i f (S .years) (S .instruments) k j → record { refusal = 0; values = k } ≡ coefficientsReckoned S i
+  pub funds-end : {k : List ℤ} {j : ℕ} → S .instruments ≤ j → Funded (S .r) i f cost (S .years) (S .instruments) k j → record { refusal = 0; values = k } ≡ coefficientsReckoned S i
   unfolding coefficientsReckoned coefficientsAt coefficientAt
   funds-end l a = rw (
-    fill-as l (a .filled) (λ j h. ap (fund (S .r) i (S .years)) (flow-same j h)),
-    sym all-fit ∙ all-end (S .instruments) (λ j. fundFits (S .r) i (f j) (S .years)) (a .filled .upto) l (a .fit),
+    fill-as l (a .filled) (λ j h. ap₂ (λ (f : ℕ → ℤ) (z : ℤ). fund (S .r) i (S .years) f +ℤ z) (flow-same j h) (sym (same-cost j h))),
+    sym all-fit ∙ all-end (S .instruments) (λ j. fundFits (S .r) i (f j) (S .years) (cost j)) (a .filled .upto) l (a .fit),
   )
 
 -- ---- what such an answer tells

@@ -1,6 +1,7 @@
 -- The arrays that the code prepares hold the numbers of an accepted plan: read by the papers' index, each is the plan's own
 -- function, and the core takes them.
 use mathlib.Core.Path.{_≡_, refl, sym, ap, ap₂, _∙_, subst, fun-ext}
+use mathlib.Core.Bool.{Bool, true, false}
 use mathlib.Core.Logic.{⊎-elim}
 use mathlib.Core.List.{List, []}
 use Prim.Native.Nat.{ℕ, zero, suc, _+_, _-_, _*_, _≤_, _<_}
@@ -15,21 +16,22 @@ use Rattle.whole.specs.Table.{table}
 use Rattle.whole.specs.Entry.{nth, entry}
 use Rattle.whole.proofs.Bridge.{whole}
 use Rattle.whole.proofs.Laws.{ℕ-cases}
-use Rattle.whole.proofs.Range.{within-more, within-add, within-sub}
+use Rattle.whole.proofs.Range.{within-more, within-add, within-sub, within-pos}
 use Rattle.whole.proofs.Floor.{floor-within}
 use Rattle.whole.proofs.Sum.{Σℕ-from, sum-zeros, sum-within-parts, sumℕ-one}
 use Rattle.whole.proofs.Table.{table-at, table-each, table-cong}
 use Rattle.whole.proofs.Entry.{entry-in, entry-past, entry-zero, entry-beyond, entry-cong, table-held}
 use Rattle.reckoning.specs.Reckoning.{paid, flow}
 use Rattle.reckoning.specs.Arrays.{sharesOf, ratesOf, amountsOf, Years, Terms, Rates, Amounts, weightsOf, Ready, fundReckoned}
-use Rattle.plan.specs.Held.{HeldInstrument, unheldInstrument, patternHeld, patternAt, allocationHeld, held}
+use Rattle.plan.specs.Held.{HeldInstrument, unheldInstrument, patternHeld, patternAt, allocationHeld, costHeld, held}
 use Rattle.plan.specs.Numbers.{Numbers, rateIn, ratesMeant, numbers}
 use Rattle.plan.specs.Refusal.{most, Accepted}
 use Rattle.plan.specs.declared.Plan.{Plan}
-use Rattle.plan.proofs.Held.{payment-before, payment-past, outflow-before, outflow-past, opening-before, opening-past, rollover-before, allocation-is, rate-is, tidy-held}
-use Rattle.planner.specs.Calls.{Shared, sharedOf, flowOf, flowReckoned}
-use Rattle.planner.specs.Arrays.{rolloverArray, ratesArray, constantArray, paymentsRow, paymentsRows, commonOf, sharedIn, flowArray, Prepared}
+use Rattle.plan.proofs.Held.{payment-before, payment-past, outflow-before, outflow-past, opening-before, opening-past, cost-is, rollover-before, allocation-is, rate-is, tidy-held}
+use Rattle.planner.specs.Calls.{Shared, sharedOf, flowOf, exactLeftOf, leftOf, flowReckoned}
+use Rattle.planner.specs.Arrays.{rolloverArray, ratesArray, constantArray, paymentsRow, paymentsRows, commonOf, sharedIn, leftIn, flowArray, Weighable, Prepared}
 use Rattle.planner.specs.declared.Common.{Common}
+use Rattle.planner.proofs.Weighing.{costIn, weighted-within, left-is, left-none}
 
 -- ---- the flow of Q, what the allocation pays, instrument after instrument, and the flow of both
 module _ {P : Numbers} (ok : Accepted P) where
@@ -126,7 +128,7 @@ module _ (plan : Plan) (ok : Accepted (numbers plan)) where
       ∙ ap (λ (f : ℕ → HeldInstrument). f j .payment k) (sym (tidy-held plan (ok .head) .instrument))))
 
   shared-held : sharedIn (commonOf plan) (paymentsRows P) ≡ sharedOf P
-  unfolding commonOf allocationHeld
+  unfolding commonOf allocationHeld costHeld
   shared-held = rw (payments-held, constant-held, rollover-held)
 
   -- ---- and their ranges
@@ -150,6 +152,9 @@ module _ (plan : Plan) (ok : Accepted (numbers plan)) where
   amounts : (f : ℕ → ℤ) → ((k : ℕ) → Within limit (f k)) → Amounts (table 30 (plan .years) f (pos 0))
   amounts f within = record { amount = table-each (Within limit) 30 (plan .years) f (pos 0) (pos 0) (ok .head .years-few) (omega whole) (λ k h. within k) }
 
+  cost-each : plan .costed ≡ true → (j : ℕ) → j < plan .instruments → Within limit (getD (plan .cost) j (pos 0))
+  cost-each e j h = subst (Within limit) (cost-is plan j h ∙ rw e) (omega (whole, ok .cost (1 + j)))
+
   prepared : Prepared (commonOf plan) (paymentsRows P)
   unfolding commonOf constantArray paymentsRow
   prepared = record {
@@ -159,6 +164,7 @@ module _ (plan : Plan) (ok : Accepted (numbers plan)) where
     weights = ap weightsOf (sym rollover-held);
     parts = allocation-parts;
     payments = λ j h. rw (row-is j h) (amounts (λ k. P .a (1 + k) (1 + j)) (λ k. within-more (omega arith) (payment-within ok (1 + k) (1 + j))));
+    costs = cost-each;
     constant = amounts (λ k. sharedOf P .constantFlow (1 + k)) (λ k. within-more (omega arith) (constant-within ok (1 + k)));
     flow = λ k. subst (λ (S : Shared). Within limit (flowOf S k)) (sym shared-held) (flow-within ok k);
     flow-held = subst (λ (S : Shared). amountsOf (flowArray S) ≡ flowOf S) (sym shared-held) flow-held;
@@ -194,15 +200,38 @@ module _ (plan : Plan) (ok : Accepted (numbers plan)) where
     pub flow-are : amountsOf f ≡ flowOf (sharedOf P)
     flow-are = rw e flow-held
 
+-- no payment has a part in what is left
+left-same : (c : Common) (rows : List (List ℤ)) → leftIn c ≡ leftOf (sharedIn c rows)
+unfolding leftOf exactLeftOf
+left-same c rows = refl
+
 -- ---- what is prepared, with any rates and with the allocation's flow, can be reckoned
 module _ {c : Common} {rows : List (List ℤ)} (p : Prepared c rows) where
   pub ready : {i : List ℤ} → Rates i → Ready (c .terms) (c .rollover) (c .weights) i
   ready g = record { terms = p .terms; weights = p .weights; rates = g }
+
+  pub cost-weighable : c .costed ≡ true → Weighable (c .instruments) (c .cost) (c .allocation)
+  cost-weighable e = record { few = p .few; amount = p .costs e; parts = p .parts }
+
+  -- a cost that counts is within the limit, and so is what is left
+  pub cost-within : (j : ℕ) → j < c .instruments → Within limit (costIn (c .costed) (c .cost) j)
+  cost-within j l = go (c .costed) refl
+    where
+      go : (costed : Bool) → c .costed ≡ costed → Within limit (costIn costed (c .cost) j)
+      go true e = p .costs e j l
+      go false e = within-pos (omega arith)
+
+  pub left-within : {z : ℤ} → z ≡ leftIn c → Within limit z
+  left-within {z} e = go (c .costed) refl
+    where
+      go : (costed : Bool) → c .costed ≡ costed → Within limit z
+      go true f = rw (e, ← left-is c f) (floor-within limit (omega arith) (weighted-within (cost-weighable f) refl))
+      go false f = rw (e, left-none c f) (within-pos (omega arith))
 
   module _ {f : List ℤ} (e : f ≡ flowArray (sharedIn c rows)) where
     pub flow-amounts : Amounts f
     unfolding flowArray
     flow-amounts = rw e (record { amount = table-each (Within limit) 30 (c .years) (λ k. flowOf (sharedIn c rows) (1 + k)) (pos 0) (pos 0) (p .years .few) (omega whole) (λ k h. p .flow (1 + k)) })
 
-    pub flow-reckoned : (i : ℕ → ℤ) → fundReckoned (sharesOf (c .rollover)) i (amountsOf f) (c .years) ≡ flowReckoned (sharedIn c rows) i
-    flow-reckoned i = ap (λ (f : ℕ → ℤ). fundReckoned (sharesOf (c .rollover)) i f (c .years)) (ap amountsOf e ∙ p .flow-held)
+    pub flow-reckoned : (i : ℕ → ℤ) {z : ℤ} → z ≡ leftIn c → fundReckoned (sharesOf (c .rollover)) i (amountsOf f) (c .years) z ≡ flowReckoned (sharedIn c rows) i
+    flow-reckoned i left = ap₂ (λ (f : ℕ → ℤ) (z : ℤ). fundReckoned (sharesOf (c .rollover)) i f (c .years) z) (ap amountsOf e ∙ p .flow-held) (left ∙ left-same c rows)

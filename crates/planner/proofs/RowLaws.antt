@@ -15,44 +15,46 @@ use Rattle.whole.proofs.Test.{both-not, picked-yes, picked-no, picked-is, all-n
 use Rattle.reckoning.specs.Bound.{h, B}
 use Rattle.reckoning.specs.Arrays.{fundReckoned}
 use Rattle.reckoning.specs.declared.Reckoned.{Reckoned}
+use Rattle.plan.specs.Held.{flag}
 use Rattle.plan.specs.Numbers.{Numbers}
-use Rattle.planner.specs.Calls.{Shared, sharedOf, flowOf, flowReckoned, fundAt, boundAt, constantAt, flowFits, coefficientsFit, constantFits}
+use Rattle.planner.specs.Calls.{Shared, sharedOf, flowOf, leftOf, flowReckoned, fundAt, boundAt, flowFits, coefficientsFit, constantFits}
 use Rattle.planner.specs.Verdict.{wordOf, noPatternRow, rowFits, wordAt, rowAt, patternWord, rowOf}
 use Rattle.planner.specs.Rows.{coefficientsReckoned, refusedRow, rowReckoned}
 use Rattle.planner.specs.declared.Coefficients.{Coefficients}
 use Rattle.planner.specs.declared.PatternRow.{PatternRow}
 use Rattle.planner.specs.declared.OneRow.{OneRow}
 use Rattle.planner.proofs.FormLoops.{coefficients-refused, coefficients-fit, coefficients-are}
+use Rattle.planner.proofs.FormLaws.{constant-is}
 use Rattle.planner.proofs.Answers.{reckoned-refused, reckoned-fits, reckoned-is}
 
 -- ---- the ways out of a pattern
 module _ (S : Shared) (i : ℕ → ℤ) {c : Reckoned} (e : c ≡ flowReckoned S i) where
   pub row-unfunded : (c .refusal ≡ 0 → ⊥) → refusedRow ≡ rowReckoned S i
   unfolding rowReckoned rowFits flowFits
-  row-unfunded h = rw (reckoned-refused (S .r) i (flowOf S) (S .years) e h)
+  row-unfunded h = rw (reckoned-refused (S .r) i (flowOf S) (S .years) (leftOf S) e h)
 
   module _ {k : Coefficients} (g : k ≡ coefficientsReckoned S i) where
     pub row-unformed : (k .refusal ≡ 0 → ⊥) → refusedRow ≡ rowReckoned S i
     unfolding rowReckoned rowFits
     row-unformed h = rw (coefficients-refused S i g h, both-not (flowFits S i))
 
-    module _ {d : Reckoned} (u : d ≡ fundReckoned (S .r) i (S .constantFlow) (S .years)) where
+    module _ {d : Reckoned} (u : d ≡ fundReckoned (S .r) i (S .constantFlow) (S .years) (pos 0)) where
       pub row-unbalanced : (d .refusal ≡ 0 → ⊥) → refusedRow ≡ rowReckoned S i
       unfolding rowReckoned rowFits constantFits
-      row-unbalanced h = rw (reckoned-refused (S .r) i (S .constantFlow) (S .years) u h, both-not (coefficientsFit S i), both-not (flowFits S i))
+      row-unbalanced h = rw (reckoned-refused (S .r) i (S .constantFlow) (S .years) (pos 0) u h, both-not (coefficientsFit S i), both-not (flowFits S i))
 
-      pub row-made : c .refusal ≡ 0 → k .refusal ≡ 0 → d .refusal ≡ 0 → {b : ℤ} {w : ℕ} → b ≡ pos (B (h i (S .years)) (S .years)) → w ≡ wordOf (c .fund) b (pos 0) →
+      pub row-made : c .refusal ≡ 0 → k .refusal ≡ 0 → d .refusal ≡ 0 → {b : ℤ} {w : ℕ} → b ≡ pos (B (h i (S .years)) (S .years) + flag (S .costed)) → w ≡ wordOf (c .fund) b (pos 0) →
           record { refusal = 0; row = record { word = w; fund = c .fund; bound = b; coefficients = k .values; constant = d .fund } } ≡ rowReckoned S i
-      unfolding rowReckoned rowFits rowAt wordAt fundAt boundAt constantAt flowFits constantFits
+      unfolding rowReckoned rowFits rowAt wordAt fundAt boundAt flowFits constantFits
       row-made c-ok k-ok d-ok b-is w-is = rw (
         w-is,
         b-is,
-        reckoned-is (S .r) i (flowOf S) (S .years) e c-ok,
+        reckoned-is (S .r) i (flowOf S) (S .years) (leftOf S) e c-ok,
         coefficients-are S i g k-ok,
-        reckoned-is (S .r) i (S .constantFlow) (S .years) u d-ok,
-        reckoned-fits (S .r) i (flowOf S) (S .years) e c-ok,
+        constant-is S i u d-ok,
+        reckoned-fits (S .r) i (flowOf S) (S .years) (leftOf S) e c-ok,
         coefficients-fit S i g k-ok,
-        reckoned-fits (S .r) i (S .constantFlow) (S .years) u d-ok,
+        reckoned-fits (S .r) i (S .constantFlow) (S .years) (pos 0) u d-ok,
       )
 
 -- ---- the loop over m patterns, of which the one at t comes to each t: words and rows have those of the first t, and check 11

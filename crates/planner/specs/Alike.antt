@@ -23,6 +23,7 @@ spelledOut H = record {
   pattern = λ t. listOf (H .shape .years) (H .pattern t);
   allocation = H .allocation;
   opening = H .opening;
+  cost = H .cost;
 }
 
 -- the numbers without T, which check 13 alone looks at: two plans with the same mean the same payments, rates and so on, whatever they hold
@@ -39,6 +40,8 @@ meant P = record {
   p = P .p;
   b = P .b;
   T = λ t. 1;
+  cost = P .cost;
+  costed = P .costed;
 }
 
 -- every call on a fund answers the same

@@ -1,6 +1,7 @@
 -- What the code prepares of a plan for the core: arrays that hold the plan's numbers P, with zeros past N, n and q; and what such
 -- arrays say by the papers' index.
 use mathlib.Core.Path.{_≡_}
+use mathlib.Core.Bool.{true}
 use mathlib.Core.List.{List, []}
 use Prim.Native.Nat.{ℕ, _+_, _-_, _≤_, _<_}
 use lib.ListN.{getD, replicate}
@@ -8,12 +9,13 @@ use lib.IntN.{ℤ, pos}
 use Rattle.whole.specs.Range.{million, limit, Within}
 use Rattle.whole.specs.Sum.{sumℕ}
 use Rattle.whole.specs.Table.{table}
+use Rattle.whole.specs.Test.{pick}
 use Rattle.whole.specs.Entry.{entry}
 use Rattle.reckoning.specs.Arrays.{sharesOf, amountsOf, Years, Terms, Amounts, weightsOf}
 use Rattle.plan.specs.Numbers.{Numbers, numbers}
 use Rattle.plan.specs.declared.Plan.{Plan}
 use Rattle.planner.specs.declared.Common.{Common}
-use Rattle.planner.specs.Calls.{Shared, sharedOf, flowOf}
+use Rattle.planner.specs.Calls.{Shared, sharedOf, flowOf, leftOf}
 
 -- ---- the arrays of a plan
 module _ (P : Numbers) where
@@ -46,6 +48,8 @@ commonOf plan = record {
   rollover = rolloverArray (numbers plan);
   weights = weightsOf (numbers plan .r);
   constantflow = constantArray (numbers plan);
+  cost = plan .cost;
+  costed = plan .costed;
 }
 
 -- ---- what arrays say
@@ -58,7 +62,13 @@ sharedIn c rows = record {
   constantFlow = amountsOf (c .constantflow);
   r = sharesOf (c .rollover);
   p = entry 0 (c .instruments) (λ j. getD (c .allocation) j 0);
+  cost = entry (pos 0) (pick (c .costed) (c .instruments) 0) (λ j. getD (c .cost) j (pos 0));
+  costed = c .costed;
 }
+
+-- what is left of the allocation, in which no payment has a part
+abbrev pub leftIn : Common → ℤ
+leftIn c = leftOf (sharedIn c [])
 
 -- the allocation's flow in years 1 to N
 unfoldable pub flowArray : Shared → List ℤ
@@ -75,7 +85,7 @@ pub record Weighable (n : ℕ) (x : List ℤ) (p : List ℕ) : Type 0 where
   pub parts : sumℕ n (λ j. getD p j 0) ≤ million
 
 -- ---- what is prepared of an accepted plan can be reckoned: the counts, the rollover and its weights, the parts of the allocation,
--- every flow within the limit, and none outside years 1 to N
+-- every flow and cost within the limit, and no flow outside years 1 to N
 pub record Prepared (c : Common) (rows : List (List ℤ)) : Type 0 where
   pub years : Years (c .years)
   pub few : c .instruments ≤ 16
@@ -84,5 +94,6 @@ pub record Prepared (c : Common) (rows : List (List ℤ)) : Type 0 where
   pub parts : sumℕ (c .instruments) (λ j. getD (c .allocation) j 0) ≤ million
   pub payments : (j : ℕ) → j < c .instruments → Amounts (getD rows j [])
   pub constant : Amounts (c .constantflow)
+  pub costs : c .costed ≡ true → (j : ℕ) → j < c .instruments → Within limit (getD (c .cost) j (pos 0))
   pub flow : (k : ℕ) → Within limit (flowOf (sharedIn c rows) k)
   pub flow-held : amountsOf (flowArray (sharedIn c rows)) ≡ flowOf (sharedIn c rows)

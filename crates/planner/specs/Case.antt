@@ -1,16 +1,16 @@
 -- Document 01, "Edges": the starred cases of the funds and the words, and all starred cases in one list. Beside them, what money already
--- invested does, and what slopes mean.
-use mathlib.Core.Bool.{true, false}
+-- invested does, what the cost at the horizon does, and what slopes mean.
+use mathlib.Core.Bool.{Bool, true, false}
 use mathlib.Core.List.{List, [], _∷_, _++_}
-use Prim.Native.Nat.{ℕ}
+use Prim.Native.Nat.{ℕ, _+_}
 use lib.IntN.{ℤ, pos, negsuc}
 use lib.ListN.{replicate}
 use Rattle.whole.specs.Case.{Case, shareCases}
 use Rattle.reckoning.specs.Case.{boundCases, gammaCases}
-use Rattle.plan.specs.Numbers.{numbers}
+use Rattle.plan.specs.Numbers.{Numbers, numbers}
 use Rattle.plan.specs.Refusal.{refusalOf}
-use Rattle.plan.specs.Case.{listed, stepped, planL, renewed, oneYear, fourYears}
-use Rattle.planner.specs.Calls.{sharedOf, exactFlowOf, constantAt}
+use Rattle.plan.specs.Case.{listed, stepped, planL, renewed, oneYear, longer, farOut, fourYears}
+use Rattle.planner.specs.Calls.{sharedOf, exactFlowOf, coefficientAt, constantAt, exactFund, fundAnswer, boundOf}
 use Rattle.planner.specs.Verdict.{solvent, short, close, fundOf, patternWord}
 
 -- the funds of L: -5200000 and 12200000
@@ -40,6 +40,55 @@ openingCases =
     ∷ record { given = pos (patternWord (numbers (renewed (pos 1_080_000_002) false (pos 2))) 1); stated = pos short }
     ∷ record { given = exactFlowOf (sharedOf (numbers (renewed (pos 1_080_000_002) true (pos 2)))) 1; stated = pos 0 }
     ∷ record { given = constantAt (sharedOf (numbers (renewed (pos 1_080_000_002) true (pos 2)))) (λ l. pos 0); stated = negsuc 1_079_999_999 }
+    ∷ []
+
+-- document 02, item 6. Outflow 1080000001, of which 1080000000 is paid. A cost of 1 on either note makes up the last amount, since the sum is
+-- cut and not each by itself; a cost of 1 on one of them leaves half an amount missing, in H too. A cost is in K_j and not in Q.
+abbrev left : (first second : ℤ) → Numbers
+left first second = numbers (longer (pos 1_080_000_001) true first second)
+
+-- an outflow that is so many amounts too much, with costs of 0 that are held, and with costs that are not
+abbrev missing : (amounts : ℕ) (costed : Bool) (cost : ℤ) → Numbers
+missing amounts costed cost = numbers (longer (pos (1_080_000_000 + amounts)) costed cost cost)
+
+unfoldable pub costCases : List Case
+costCases =
+    record { given = fundOf (left (pos 1) (pos 1)) 1; stated = pos 0 }
+    ∷ record { given = exactFund (left (pos 1) (pos 1)) 1; stated = pos 0 }
+    ∷ record { given = pos (patternWord (left (pos 1) (pos 1)) 1); stated = pos solvent }
+    ∷ record { given = fundOf (left (pos 1) (pos 0)) 1; stated = negsuc 0 }
+    ∷ record { given = exactFund (left (pos 1) (pos 0)) 1; stated = negsuc 499_999_999_999 }
+    ∷ record { given = pos (patternWord (left (pos 1) (pos 0)) 1); stated = pos close }
+    ∷ record { given = coefficientAt (sharedOf (left (pos 1) (pos 7))) (λ l. pos 0) 2; stated = pos 1_080_000_007 }
+    ∷ record { given = constantAt (sharedOf (left (pos 1) (pos 7))) (λ l. pos 0); stated = negsuc 1_080_000_000 }
+    -- B is 3 for N = 1, also where every cost is 0, and 2 where none is held
+    ∷ record { given = pos (boundOf (missing 2 true (pos 0)) 1); stated = pos 3 }
+    ∷ record { given = pos (patternWord (missing 2 true (pos 0)) 1); stated = pos close }
+    ∷ record { given = pos (patternWord (missing 3 true (pos 0)) 1); stated = pos short }
+    ∷ record { given = pos (boundOf (missing 2 false (pos 9)) 1); stated = pos 2 }
+    ∷ record { given = pos (patternWord (missing 2 false (pos 9)) 1); stated = pos short }
+    -- a cost of 20000000000 is taken, one more and one below 0 are refused 6, and what is not held is not looked at
+    ∷ record { given = pos (refusalOf (left (pos 0) (pos 20_000_000_000))); stated = pos 0 }
+    ∷ record { given = pos (refusalOf (left (pos 0) (pos 20_000_000_001))); stated = pos 6 }
+    ∷ record { given = pos (refusalOf (left (negsuc 0) (pos 0))); stated = pos 6 }
+    ∷ record { given = pos (refusalOf (missing 0 false (negsuc 0))); stated = pos 0 }
+    ∷ []
+
+-- check 11 looks at the fund with the cost inside, and no cell here is past 200000000000. Of -1000000000005 a cost of 5 makes a fund that is
+-- taken, and one of 4, or one that is not held, does not; of 999999999995 a cost of 5 does, and one of 6 does not.
+abbrev below : (costed : Bool) (cost : ℤ) → Numbers
+below costed cost = numbers (farOut (pos 17_000_000_000) (pos 10_669_305_133) costed cost)
+
+abbrev above : (cost : ℤ) → Numbers
+above cost = numbers (farOut (negsuc 16_999_999_999) (negsuc 10_669_305_133) true cost)
+
+unfoldable pub costLimits : List Case
+costLimits =
+    record { given = fundAnswer (below true (pos 5)) 1 .fund; stated = negsuc 999_999_999_999 }
+    ∷ record { given = pos (fundAnswer (below true (pos 4)) 1 .refusal); stated = pos 11 }
+    ∷ record { given = pos (fundAnswer (below false (pos 5)) 1 .refusal); stated = pos 11 }
+    ∷ record { given = fundAnswer (above (pos 5)) 1 .fund; stated = pos 1_000_000_000_000 }
+    ∷ record { given = pos (fundAnswer (above (pos 6)) 1 .refusal); stated = pos 11 }
     ∷ []
 
 -- document 02, item 2. From 40000 down by 10000 up to year 3: the rates of years 2 to 4 are 30000, 20000, 20000, and there are none in years

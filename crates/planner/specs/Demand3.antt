@@ -1,5 +1,6 @@
 -- Demand 3: what an accepted answer says of Tilley's exact fund (document 01, "Bound, form, verdict"). H is that of the plan's
--- own numbers, and B is what the bound's call answers for the same plan and pattern.
+-- own numbers, with what is left at the horizon inside (document 02, item 6), and B is what the bound's call answers for the same plan and
+-- pattern.
 use mathlib.Core.Path.{_≡_}
 use Prim.Native.Nat.{ℕ, _+_, _-_, _*_, _≤_}
 use lib.ListN.{getD}

@@ -52,7 +52,7 @@ module _ (S : Shared) (i : ℕ → ℤ) where
   unfoldable pub rowFits : Bool
   rowFits = both (flowFits S i) (both (coefficientsFit S i) (constantFits S i))
 
-  -- its word, by its fund and B, against 0
+  -- its word, by its fund with what is left inside and B, against 0
   unfoldable pub wordAt : ℕ
   wordAt = wordOf (fundAt S i) (pos (boundAt S i)) (pos 0)
 

@@ -4,7 +4,7 @@ use reckoning::GammaTable;
 use reckoning::Reckoned;
 use reckoning::Row;
 ghost use mathlib.Core.Path.{_≡_};
-ghost use mathlib.Core.Bool.{false};
+ghost use mathlib.Core.Bool.{true, false};
 ghost use Prim.Native.Nat.{_+_, _≤_, _<_};
 ghost use lib.Dec.{eqb};
 ghost use lib.ListN.{getD};
@@ -12,16 +12,17 @@ ghost use lib.IntN.{pos, _*ℤ_};
 ghost use Rattle.whole.specs.Range.{limit, Between, Within};
 ghost use Rattle.whole.specs.Sum.{sum};
 ghost use Rattle.whole.specs.Test.{pick};
+ghost use Rattle.reckoning.specs.Bound.{h as largestOf, B};
 ghost use Rattle.reckoning.specs.Arrays.{sharesOf, ratesOf, amountsOf, Years, Rates, Amounts, Ready, fundReckoned};
-ghost use Rattle.plan.specs.Held.{PlainHeld, held};
+ghost use Rattle.plan.specs.Held.{flag, PlainHeld, held};
 ghost use Rattle.plan.specs.Numbers.{numbers};
 ghost use Rattle.plan.specs.Refusal.{Accepted};
-ghost use Rattle.planner.specs.Calls.{noForm, sharedOf, formReckoned, callRefusal, fundAnswer, boundAnswer, gammasAnswer, formAnswer};
+ghost use Rattle.planner.specs.Calls.{noForm, sharedOf, flowReckoned, formReckoned, callRefusal, fundAnswer, boundAnswer, gammasAnswer, formAnswer};
 ghost use Rattle.planner.specs.Verdict.{short, wordOf, bitsOf, noPatternRow, planWordOf, verdictAnswer, judgementOf};
-ghost use Rattle.planner.specs.Arrays.{rolloverArray, ratesArray, constantArray, paymentsRows, commonOf, sharedIn, flowArray, columnOf, Weighable, Prepared};
+ghost use Rattle.planner.specs.Arrays.{rolloverArray, ratesArray, constantArray, paymentsRows, commonOf, sharedIn, leftIn, flowArray, columnOf, Weighable, Prepared};
 ghost use Rattle.planner.specs.Rows.{coefficientsReckoned, refusedRow, rowReckoned, noJudgement, verdictOf};
 ghost use Rattle.planner.specs.Demand3.{FundNear, FormNear, VerdictTrue};
-ghost use Rattle.planner.specs.Plain.{PlainFlow, Plain};
+ghost use Rattle.planner.specs.Plain.{PlainFlow, PlainHorizon, Plain};
 ghost use Rattle.planner.specs.Alike.{Alike};
 
 pub struct BoundAnswer {
@@ -37,7 +38,8 @@ pub struct FormAnswer {
 }
 
 // What all patterns of a plan share, beside the payments: N, n and q, the allocation (what stands past n plays no part), the
-// rollover and its weights, and the flow of Q.
+// rollover and its weights, the flow of Q, whether the cost at the horizon is held, and that of each instrument (what stands there plays no
+// part where it is not held, nor past n).
 pub struct Common {
     pub years: usize,
     pub instruments: usize,
@@ -46,6 +48,8 @@ pub struct Common {
     pub rollover: [i64; 30],
     pub weights: [i64; 30],
     pub constantflow: [i64; 30],
+    pub cost: [i64; 16],
+    pub costed: bool,
 }
 
 // What `coefficients_of` answers: K_1 to K_n.
@@ -133,6 +137,7 @@ pub fn common_of(plan: Plan, constant: [i64; 30]) -> Common
     let r = rollover_of(plan);
     let w = reckoning::weights(r, terms);
     let p = plan.allocation;
+    let cost = plan.cost;
     Common {
         years: plan.years,
         instruments: plan.instruments,
@@ -141,6 +146,8 @@ pub fn common_of(plan: Plan, constant: [i64; 30]) -> Common
         rollover: r,
         weights: w,
         constantflow: constant,
+        cost: cost,
+        costed: plan.costed,
     }
 }
 
@@ -188,6 +195,23 @@ pub fn flow_of(common: Common, payments: &[[i64; 30]; 16]) -> [i64; 30]
     v
 }
 
+// What is left of the allocation at the horizon, in whole amounts; 0 where no cost is held.
+pub fn left_of(common: Common) -> i64
+    requires { ⌜ (common .costed ≡ true → Weighable (common .instruments) (common .cost) (common .allocation)) ⌝ }
+    ensures { λ s. ⌜ s ≡ leftIn common ⌝ }
+    ensures { λ s. ⌜ Within limit s ⌝ }
+{
+    let costed = common.costed;
+    if !costed {
+        return 0;
+    }
+    let n = common.instruments;
+    let cost = common.cost;
+    let p = common.allocation;
+    let z = weighted(cost, p, n);
+    whole::down(z)
+}
+
 // The allocation's flow of a plan that was already checked: the project's own leaf and no entry.
 pub fn allocation_flow(plan: Plan) -> [i64; 30]
     requires { ⌜ Accepted (numbers plan) ⌝ }
@@ -201,35 +225,36 @@ pub fn allocation_flow(plan: Plan) -> [i64; 30]
 
 // ---- one pattern, at the rates i
 
-// The fund of a flow; refused 11, and 0, where check 11 does not take it or a cell.
-pub fn fund_at(common: Common, flow: &[i64; 30], i: &[i64; 30]) -> Reckoned
+// The fund of a flow, with the amount that is left at the horizon; refused 11, and 0, where check 11 does not take it or a cell.
+pub fn fund_at(common: Common, flow: &[i64; 30], left: i64, i: &[i64; 30]) -> Reckoned
     requires { ⌜ Ready (common .terms) (common .rollover) (common .weights) (now i) ⌝ }
     requires { ⌜ Amounts (now flow) ⌝ }
     requires { ⌜ Years (common .years) ⌝ }
-    ensures { λ s. ⌜ s ≡ fundReckoned (sharesOf (common .rollover)) (ratesOf (now (i .entry))) (amountsOf (now (flow .entry))) (common .years) ⌝ }
+    requires { ⌜ Within limit left ⌝ }
+    ensures { λ s. ⌜ s ≡ fundReckoned (sharesOf (common .rollover)) (ratesOf (now (i .entry))) (amountsOf (now (flow .entry))) (common .years) left ⌝ }
     ensures { λ s. ⌜ Within limit (s .fund) ⌝ }
 {
     let years = common.years;
     let q = common.terms;
     let r = common.rollover;
     let w = common.weights;
-    reckoning::fund(flow, &r, &w, i, years, q)
+    reckoning::fund(flow, &r, &w, i, years, q, left)
 }
 
-// Q, the fund of the flow that no allocation changes; refused 11, and 0, as that of any flow.
+// Q, the fund of the flow that no allocation changes, of which nothing is left; refused 11, and 0, as that of any flow.
 fn constant_at(common: Common, i: &[i64; 30]) -> Reckoned
     requires { ⌜ Ready (common .terms) (common .rollover) (common .weights) (now i) ⌝ }
     requires { ⌜ Amounts (common .constantflow) ⌝ }
     requires { ⌜ Years (common .years) ⌝ }
-    ensures { λ s. ⌜ s ≡ fundReckoned (sharesOf (common .rollover)) (ratesOf (now (i .entry))) (amountsOf (common .constantflow)) (common .years) ⌝ }
+    ensures { λ s. ⌜ s ≡ fundReckoned (sharesOf (common .rollover)) (ratesOf (now (i .entry))) (amountsOf (common .constantflow)) (common .years) (pos 0) ⌝ }
     ensures { λ s. ⌜ Within limit (s .fund) ⌝ }
 {
     let constant_flow = common.constantflow;
-    fund_at(common, &constant_flow, i)
+    fund_at(common, &constant_flow, 0, i)
 }
 
-// K_1 to K_n, the funds of the instruments' payments, and zeros past them; refused 11, and all zeros, where check 11 does not take
-// one.
+// K_1 to K_n, the funds of the instruments' payments with their costs, and zeros past them; refused 11, and all zeros, where check 11 does
+// not take one.
 fn coefficients_of(common: Common, payments: &[[i64; 30]; 16], i: &[i64; 30]) -> Coefficients
     requires { ⌜ Prepared common (now payments) ⌝ }
     requires { ⌜ Rates (now i) ⌝ }
@@ -240,9 +265,12 @@ fn coefficients_of(common: Common, payments: &[[i64; 30]; 16], i: &[i64; 30]) ->
     let q = common.terms;
     let r = common.rollover;
     let w = common.weights;
+    let costed = common.costed;
+    let cost = common.cost;
     let mut k = [0i64; 16];
     for j in 0..n {
-        let c = reckoning::fund(&payments[j], &r, &w, i, years, q);
+        let left = plan::amount_held(costed, cost[j]);
+        let c = reckoning::fund(&payments[j], &r, &w, i, years, q, left);
         let no = c.refusal;
         if no != 0 {
             return Coefficients {
@@ -257,6 +285,31 @@ fn coefficients_of(common: Common, payments: &[[i64; 30]; 16], i: &[i64; 30]) ->
         refusal: 0,
         values: k,
     }
+}
+
+// The fund of the allocation, with what is left of it; refused 11, and 0, where check 11 does not take it or a cell.
+fn allocation_at(common: Common, payments: &[[i64; 30]; 16], i: &[i64; 30]) -> Reckoned
+    requires { ⌜ Prepared common (now payments) ⌝ }
+    requires { ⌜ Rates (now i) ⌝ }
+    ensures { λ s. ⌜ s ≡ flowReckoned (sharedIn common (now (payments .entry))) (ratesOf (now (i .entry))) ⌝ }
+{
+    let flow = flow_of(common, payments);
+    let left = left_of(common);
+    fund_at(common, &flow, left, i)
+}
+
+// B of a pattern of the rates i over so many years: one more where the cost at the horizon is held.
+pub fn bound_at(i: &[i64; 30], years: usize, costed: bool) -> i64
+    requires { ⌜ Rates (now i) ⌝ }
+    requires { ⌜ Years years ⌝ }
+    ensures { λ s. ⌜ s ≡ pos (B (largestOf (ratesOf (now (i .entry))) years) years + flag costed) ⌝ }
+    ensures { λ s. ⌜ Between (pos 0) (pos 4_294_967_296) s ⌝ }
+{
+    let b = reckoning::bound(i, years);
+    if costed {
+        return b + 1;
+    }
+    b
 }
 
 // The answer for a form that is refused: the refusal's number, and zeros.
@@ -335,9 +388,8 @@ pub fn fund(plan: Plan, t: usize) -> Reckoned
     let constant = constant_flow_of(plan);
     let common = common_of(plan, constant);
     let payments = payments_of(plan);
-    let flow = flow_of(common, &payments);
     let i = rates_of(plan, t);
-    fund_at(common, &flow, &i)
+    allocation_at(common, &payments, &i)
 }
 
 // The bound B of pattern t, in amounts; 0 on a refusal: 3, 6 to 10 or 13.
@@ -352,8 +404,9 @@ pub fn bound(plan: Plan, t: usize) -> BoundAnswer
         };
     }
     let years = plan.years;
+    let costed = plan.costed;
     let rates = rates_of(plan, t);
-    let b = reckoning::bound(&rates, years);
+    let b = bound_at(&rates, years, costed);
     BoundAnswer {
         refusal: 0,
         bound: b,
@@ -465,13 +518,20 @@ fn refused_row() -> OneRow
 
 // What a pattern of the rates i comes to, each of its flows reckoned once; refused 11, and zeros, at the first that check 11 does not
 // take.
-fn row_at(common: Common, payments: &[[i64; 30]; 16], flow: &[i64; 30], i: &[i64; 30]) -> OneRow
+fn row_at(
+    common: Common,
+    payments: &[[i64; 30]; 16],
+    flow: &[i64; 30],
+    left: i64,
+    i: &[i64; 30],
+) -> OneRow
     requires { ⌜ Prepared common (now payments) ⌝ }
     requires { ⌜ now flow ≡ flowArray (sharedIn common (now payments)) ⌝ }
+    requires { ⌜ left ≡ leftIn common ⌝ }
     requires { ⌜ Rates (now i) ⌝ }
     ensures { λ s. ⌜ s ≡ rowReckoned (sharedIn common (now (payments .entry))) (ratesOf (now (i .entry))) ⌝ }
 {
-    let c = fund_at(common, flow, i);
+    let c = fund_at(common, flow, left, i);
     let no = c.refusal;
     if no != 0 {
         return refused_row();
@@ -487,8 +547,9 @@ fn row_at(common: Common, payments: &[[i64; 30]; 16], flow: &[i64; 30], i: &[i64
         return refused_row();
     }
     let years = common.years;
+    let costed = common.costed;
     let z = c.fund;
-    let b = reckoning::bound(i, years);
+    let b = bound_at(i, years, costed);
     let word = word_of(z, b, 0);
     let k = f.values;
     let constant = d.fund;
@@ -587,13 +648,14 @@ fn judged(plan: Plan, common: Common, payments: &[[i64; 30]; 16]) -> Judgement
     let years = plan.years;
     let pattern = plan.pattern;
     let flow = flow_of(common, payments);
+    let left = left_of(common);
     let none = no_pattern_row();
     let mut words = [0u8; 64];
     let mut rows = [none; 64];
     for t in 0..m {
         let one = pattern[t];
         let i = plan::rates(one, years);
-        let c = row_at(common, payments, &flow, &i);
+        let c = row_at(common, payments, &flow, left, &i);
         let refusal = c.refusal;
         if refusal != 0 {
             return no_judgement(11);
@@ -636,6 +698,7 @@ pub fn verdict(plan: Plan) -> VerdictAnswer
     ensures is { λ s. ⌜ s ≡ verdictAnswer (numbers plan) ⌝ }
     ensures near { λ s. ⌜ VerdictTrue (numbers plan) s ⌝ }
     ensures flow { λ _. ⌜ (plan .opened ≡ false → PlainFlow (numbers plan)) ⌝ }
+    ensures horizon { λ _. ⌜ (plan .costed ≡ false → PlainHorizon (numbers plan)) ⌝ }
     ensures plain { λ _. ⌜ (PlainHeld (held plan) → Plain (held plan)) ⌝ }
     ensures alike { λ _. ⌜ Alike (held plan) ⌝ }
 {

@@ -21,7 +21,7 @@ use Rattle.records.proofs.Cursor.{recordAt}
 use Rattle.plan.specs.declared.Shape.{Shape}
 use Rattle.plan.specs.declared.Pattern.{Pattern}
 use Rattle.plan.specs.declared.Plan.{Plan}
-use Rattle.plan.specs.Held.{Held, flag, openings, shapeOf, unheldInstrument, unheldPattern, noInstrument, noPattern, noPlan, instrumentFrom, patternFrom, planFrom}
+use Rattle.plan.specs.Held.{Held, flag, openings, costs, shapeOf, unheldInstrument, unheldPattern, noInstrument, noPattern, noPlan, instrumentFrom, patternFrom, planFrom}
 use Rattle.planfile.specs.Kinds.{roleOf}
 use Rattle.planfile.specs.Groups.{groupsOf, total, spotAt, countOf}
 use Rattle.planfile.specs.Rows.{rec, instrumentIn, patternIn}
@@ -74,6 +74,8 @@ planSeen H c =
       allocation = table 16 (once (c 6) 0 (h .instruments)) (λ j. H .allocation (1 + j)) 0;
       opened = once (c 1) false (h .opened);
       opening = table 30 (once (c 7) 0 (openings h)) (λ k. H .opening (1 + k)) (pos 0);
+      costed = once (c 1) false (h .costed);
+      cost = table 16 (once (c 9) 0 (costs h)) (λ j. H .cost (1 + j)) (pos 0);
     }
 
 -- a plan, but what is of one role taken from another
@@ -90,6 +92,8 @@ changed role plan other = record {
   allocation = pick (eqb role 6) (other .allocation) (plan .allocation);
   opened = pick (eqb role 1) (other .opened) (plan .opened);
   opening = pick (eqb role 7) (other .opening) (plan .opening);
+  costed = pick (eqb role 1) (other .costed) (plan .costed);
+  cost = pick (eqb role 9) (other .cost) (plan .cost);
 }
 
 pick-back : {A : Type 0} (b : Bool) (x y : A) → pick b x (pick b y x) ≡ x
@@ -134,10 +138,10 @@ module _ (s : List ℕ) (h : Shape) where
 
   pub after-all : planAfter (total (groupsOf h)) ≡ planFrom H
   unfolding planAfter planSeen planFrom heldOf groupsOf countOf
-  after-all = rw (seen-all, once-held (h .opened) (h .years))
+  after-all = rw (seen-all, once-held (h .opened) (h .years), once-held (h .costed) (h .instruments))
 
   -- the row of an instrument, and what is held of a pattern
-  instrument-in : (j : ℕ) → j < h .instruments → record { payments = amountsRead (h .years) (recordIn s h 2 j .body) } ≡ instrumentFrom (h .years) (H .instrument (1 + j))
+  instrument-in : (j : ℕ) → j < h .instruments → record { payments = amountsRead 30 (h .years) (recordIn s h 2 j .body) } ≡ instrumentFrom (h .years) (H .instrument (1 + j))
   unfolding heldOf instrumentIn
   instrument-in j l =
       rw (entry-at unheldInstrument (h .instruments) (λ j. instrumentIn (h .years) (recordIn s h 2 j)) j l)
@@ -158,7 +162,7 @@ module _ (s : List ℕ) (h : Shape) where
     fill-head k kept e = next 1 k kept (rw (sole k (omega arith) .before, ← e))
 
     pub fill-instrument : {j : ℕ} {xs : List ℤ} → Turn s h t 2 j → changed 2 q p ≡ p → q .instrument ≡ set (p .instrument) j (record { payments = xs })
-        → xs ≡ amountsRead (h .years) body → j < 16 → q ≡ planAfter (t + 1)
+        → xs ≡ amountsRead 30 (h .years) body → j < 16 → q ≡ planAfter (t + 1)
     unfolding planAfter planSeen heldOf groupsOf countOf
     fill-instrument {j} k kept e x l =
         next 2 k kept
@@ -173,7 +177,7 @@ module _ (s : List ℕ) (h : Shape) where
           table-more 16 j (λ j. instrumentFrom (h .years) (H .instrument (1 + j))) noInstrument l,
         ))
 
-    pub fill-outflows : {j : ℕ} → Turn s h t 3 j → changed 3 q p ≡ p → q .outflows ≡ amountsRead (h .years) body → q ≡ planAfter (t + 1)
+    pub fill-outflows : {j : ℕ} → Turn s h t 3 j → changed 3 q p ≡ p → q .outflows ≡ amountsRead 30 (h .years) body → q ≡ planAfter (t + 1)
     unfolding planAfter planSeen heldOf groupsOf countOf
     fill-outflows k kept e =
         let f = sole k (omega arith) in
@@ -208,7 +212,7 @@ module _ (s : List ℕ) (h : Shape) where
         let f = sole k (omega arith) in
         next 6 k kept (rw (f .before, e, handed, body-found f, array-in 16 (h .instruments) (numberAt 4 (recordIn s h 6 0 .body)) 0))
 
-    pub fill-opening : {j : ℕ} → Turn s h t 7 j → changed 7 q p ≡ p → q .opening ≡ amountsRead (h .years) body → q ≡ planAfter (t + 1)
+    pub fill-opening : {j : ℕ} → Turn s h t 7 j → changed 7 q p ≡ p → q .opening ≡ amountsRead 30 (h .years) body → q ≡ planAfter (t + 1)
     unfolding planAfter planSeen heldOf groupsOf countOf
     fill-opening k kept e =
         let f = sole k (held-few (h .opened)) in
@@ -220,4 +224,18 @@ module _ (s : List ℕ) (h : Shape) where
           handed,
           body-found f,
           array-in 30 (h .years) (λ k. signedOf 8 (numberAt 8 (recordIn s h 7 0 .body) k)) (pos 0),
+        ))
+
+    pub fill-cost : {j : ℕ} → Turn s h t 9 j → changed 9 q p ≡ p → q .cost ≡ amountsRead 16 (h .instruments) body → q ≡ planAfter (t + 1)
+    unfolding planAfter planSeen heldOf groupsOf countOf
+    fill-cost k kept e =
+        let f = sole k (held-few (h .costed)) in
+        next 9 k kept
+        (rw (
+          f .before,
+          held-all (h .costed) (f .few) (h .instruments),
+          e,
+          handed,
+          body-found f,
+          array-in 16 (h .instruments) (λ k. signedOf 8 (numberAt 8 (recordIn s h 9 0 .body) k)) (pos 0),
         ))

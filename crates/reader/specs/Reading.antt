@@ -20,11 +20,11 @@ partOf s start end = take (end - start) (drop start s)
 
 -- the four numbers of a file's first record, in a shape that holds none of the kinds that may be absent
 abbrev pub headIn : List ℕ → Shape
-headIn s = record { years = getD s 4 0; instruments = getD s 5 0; terms = getD s 6 0; patterns = getD s 7 0; opened = false }
+headIn s = record { years = getD s 4 0; instruments = getD s 5 0; terms = getD s 6 0; patterns = getD s 7 0; opened = false; costed = false }
 
--- the first n numbers of a body in an array, with zeros past them: amounts, rates, and shares in an array of m
-abbrev pub amountsRead : (n : ℕ) → (body : List ℕ) → List ℤ
-amountsRead n body = table 30 n (λ k. signedOf 8 (numberAt 8 body k)) (pos 0)
+-- the first n numbers of a body in an array, with zeros past them: amounts in an array of m, rates, and shares in an array of m
+abbrev pub amountsRead : (m n : ℕ) → (body : List ℕ) → List ℤ
+amountsRead m n body = table m n (λ k. signedOf 8 (numberAt 8 body k)) (pos 0)
 
 abbrev pub ratesRead : (n : ℕ) → (body : List ℕ) → List ℤ
 ratesRead n body = table 30 n (λ k. signedOf 4 (numberAt 4 body k)) (pos 0)

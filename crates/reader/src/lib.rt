@@ -8,6 +8,7 @@ use records::Next;
 ghost use mathlib.Core.Path.{_≡_};
 ghost use mathlib.Core.Bool.{true};
 ghost use Prim.Native.Nat.{_*_, _≤_};
+ghost use lib.IntN.{pos};
 ghost use lib.ListN.{length, replicate};
 ghost use Rattle.records.specs.Cursor.{nextAt, wholeFile};
 ghost use Rattle.plan.specs.Held.{noPlan, planFrom};
@@ -143,17 +144,21 @@ fn head_in(file: &[u8]) -> Shape
         terms,
         patterns,
         opened: false,
+        costed: false,
     }
 }
 
-// The shape of a file: the four numbers of its first record, and whether a kind 7 stands right after where kind 3 stands.
+// The shape of a file: the four numbers of its first record, whether a kind 7 stands right after where kind 3 stands, and whether a kind 9
+// stands there, or right after kind 7 where that is there.
 fn shape_in(file: &[u8]) -> Shape
     requires { ⌜ 8 ≤ length (now file) ⌝ }
     ensures { λ r. ⌜ r ≡ shapeIn (now (file .entry)) ⌝ }
 {
     let mut shape = head_in(file);
     let n = shape.instruments;
-    shape.opened = has_role(file, 2 + n, 7);
+    let opened = has_role(file, 2 + n, 7);
+    shape.opened = opened;
+    shape.costed = has_role(file, 2 + n + plan::flag(opened), 9);
     shape
 }
 
@@ -255,17 +260,16 @@ fn layout_refusal(file: &[u8]) -> u8
 
 // ---- the bodies
 
-// The first n amounts of a body.
-fn amounts(body: &[u8], n: usize) -> [i64; 30]
-    requires { ⌜ n ≤ 30 ⌝ }
+// The first n amounts of a body, put into an array of zeros that is lent.
+fn amounts(body: &[u8], n: usize, out: &mut [i64])
+    requires { ⌜ n ≤ length (now out) ⌝ }
     requires { ⌜ 8 * n ≤ length (now body) ⌝ }
-    ensures { λ r. ⌜ r ≡ amountsRead n (now (body .entry)) ⌝ }
+    requires { ⌜ now out ≡ replicate (length (now out)) (pos 0) ⌝ }
+    ensures { λ _. ⌜ now (out .exit) ≡ amountsRead (length (now (out .entry))) n (now (body .entry)) ⌝ }
 {
-    let mut amounts = [0i64; 30];
     for k in 0..n {
-        amounts[k] = little_endian::i64_at(body, 8 * k);
+        out[k] = little_endian::i64_at(body, 8 * k);
     }
-    amounts
 }
 
 // The first n rates of a body.
@@ -316,7 +320,7 @@ fn slope_in(body: &[u8]) -> Pattern
     }
 }
 
-// The first n shares of a body, put into an array of zeros that is lent.
+// The first n shares of a body, put into such an array.
 fn shares(body: &[u8], n: usize, out: &mut [u32])
     requires { ⌜ n ≤ length (now out) ⌝ }
     requires { ⌜ 4 * n ≤ length (now body) ⌝ }
@@ -354,7 +358,9 @@ fn no_plan() -> Plan
         }; 64],
         allocation: [0u32; 16],
         opening: [0i64; 30],
+        cost: [0i64; 16],
         opened: false,
+        costed: false,
     }
 }
 
@@ -383,13 +389,17 @@ fn plan_in(file: &[u8], shape: Shape) -> Plan
                         plan.terms = shape.terms;
                         plan.patterns = shape.patterns;
                         plan.opened = shape.opened;
+                        plan.costed = shape.costed;
                     }
                     2 => {
-                        let payments = amounts(body, shape.years);
+                        let mut payments = [0i64; 30];
+                        amounts(body, shape.years, &mut payments);
                         plan.instrument[index] = Instrument { payments };
                     }
                     3 => {
-                        plan.outflows = amounts(body, shape.years);
+                        let mut outflows = [0i64; 30];
+                        amounts(body, shape.years, &mut outflows);
+                        plan.outflows = outflows;
                     }
                     4 => {
                         let mut rollover = [0u32; 30];
@@ -406,13 +416,20 @@ fn plan_in(file: &[u8], shape: Shape) -> Plan
                         plan.allocation = allocation;
                     }
                     7 => {
-                        plan.opening = amounts(body, shape.years);
+                        let mut opening = [0i64; 30];
+                        amounts(body, shape.years, &mut opening);
+                        plan.opening = opening;
                     }
                     8 => {
                         let slope = slope_in(body);
                         plan.pattern[index] = slope;
                     }
-                    9.. => {}
+                    9 => {
+                        let mut cost = [0i64; 16];
+                        amounts(body, shape.instruments, &mut cost);
+                        plan.cost = cost;
+                    }
+                    10.. => {}
                 }
             }
             Next::Stop { left: _ } => {

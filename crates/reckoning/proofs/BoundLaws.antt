@@ -55,13 +55,13 @@ module _ (h : ℕ) where
   B-small zero most some = absurd (omega arith)
   B-small (suc j) most some = let e : suc j + 2 ≡ suc (suc (suc j)) = omega arith in rw e (omega (arith, B-is j, G-small most j))
 
-  -- over thirty years G and B stay within 2^32
+  -- over thirty years G stays within 2^32, and B below it
   pub G-most : (k : ℕ) → h ≤ million → 2 ≤ k → k ≤ 31 → G h k + 3 * k + 1 ≤ 4_294_967_296
   G-most k most some few =
       let e : suc (suc (k - 2)) ≡ k = omega arith in
       omega (arith, rw e at (G-small most (k - 2)), pow-mono {i = suc k} {j = 32} (omega arith))
 
-  pub B-most : (N : ℕ) → h ≤ million → 1 ≤ N → N ≤ 30 → B h N ≤ 4_294_967_296
+  pub B-most : (N : ℕ) → h ≤ million → 1 ≤ N → N ≤ 30 → B h N ≤ 4_294_967_295
   unfolding B
   B-most N most some few = omega (arith, G-most (N + 1) most (omega arith) (omega arith))
 

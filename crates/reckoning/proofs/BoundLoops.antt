@@ -94,5 +94,5 @@ module _ {h n : ℕ} {g : ℤ} {k : ℕ} (s : Growing (pos h) n g k) where
   unfolding B
   grow-end b = let e : k - 1 ≡ n + 1 = omega (arith, s .upto) in rw (s .is, e)
 
-  pub bound-between : Between (pos 0) (pos 4_294_967_296) (pos (B h n))
+  pub bound-between : Between (pos 0) (pos 4_294_967_295) (pos (B h n))
   bound-between = omega (whole, B-most h n (s .small) (s .years .some) (s .years .few))

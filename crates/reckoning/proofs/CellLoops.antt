@@ -3,6 +3,7 @@ use mathlib.Core.Path.{_≡_, refl, sym, ap, ap₂, subst, _∙_}
 use mathlib.Core.Bool.{Bool, true, false}
 use mathlib.Core.List.{List}
 use Prim.Native.Nat.{ℕ, suc, _+_, _*_, _-_, _≤_, _<_}
+use native.Mathlib.Nat.{mul-le-mul-right}
 use native.Mathlib.Omega.{arith}
 use lib.ListN.{getD, set, replicate}
 use lib.IntN.{ℤ, pos, _+ℤ_, _-ℤ_, +ℤ-idr, +ℤ-assoc}
@@ -14,7 +15,7 @@ use Rattle.whole.specs.Sum.{sum}
 use Rattle.whole.specs.Test.{pick, both, isWithin}
 use Rattle.whole.specs.Table.{table}
 use Rattle.whole.proofs.Bridge.{whole, at, #, _⊖_}
-use Rattle.whole.proofs.Range.{within-add, within-pos, within-fits, whole64}
+use Rattle.whole.proofs.Range.{within-more, within-add, within-pos, within-fits, whole64}
 use Rattle.whole.proofs.Floor.{share-within, share-none}
 use Rattle.whole.proofs.Sum.{sum-more, sum-cong, sum-zeros, sum-within}
 use Rattle.whole.proofs.Test.{both-second, both-not, all-none, all-more, all-fails, all-at, between-fact}
@@ -146,21 +147,21 @@ module _ (r i f : List ℤ) {n : ℕ} (years : Years n) where
       fit = all-more j (λ l. isWithin limit (αs l)) (s .fit) (rw e at h);
     }
 
-    pub fill-refuse : isWithin limit z ≡ false → record { refusal = 11; fund = pos 0 } ≡ fundReckoned (sharesOf r) (ratesOf i) (amountsOf f) n
+    pub fill-refuse : (left : ℤ) → isWithin limit z ≡ false → record { refusal = 11; fund = pos 0 } ≡ fundReckoned (sharesOf r) (ratesOf i) (amountsOf f) n left
     unfolding fundReckoned fundFits alphasFit
-    fill-refuse h = rw (all-fails n (λ l. isWithin limit (αs l)) j b (rw e at h))
+    fill-refuse left h = rw (all-fails n (λ l. isWithin limit (αs l)) j b (rw e at h))
 
   pub fill-end : {j : ℕ} {v : List ℤ} → n ≤ j → Filled r i f n j v → Filled r i f n n v
   fill-end {j} {v} l s = let e : j ≡ n = omega (arith, s .upto) in subst (λ (j : ℕ). Filled r i f n j v) e s
 
 -- ---- accepted or not, the fund of an answer is within the limit
-module _ (r : ℕ → ℕ) (i f : ℕ → ℤ) (N : ℕ) where
-  pub fund-within : Within limit (fundReckoned r i f N .fund)
+module _ (r : ℕ → ℕ) (i f : ℕ → ℤ) (N : ℕ) (left : ℤ) where
+  pub fund-within : Within limit (fundReckoned r i f N left .fund)
   unfolding fundReckoned fundFits
-  fund-within = go (both (alphasFit r i f N) (isWithin limit (fund r i N f))) refl
+  fund-within = go (both (alphasFit r i f N) (isWithin limit (fund r i N f +ℤ left))) refl
     where
-      go : (b : Bool) → both (alphasFit r i f N) (isWithin limit (fund r i N f)) ≡ b →
-          Within limit (pick {A = Reckoned} b (record { refusal = 0; fund = fund r i N f }) (record { refusal = 11; fund = pos 0 }) .fund)
+      go : (b : Bool) → both (alphasFit r i f N) (isWithin limit (fund r i N f +ℤ left)) ≡ b →
+          Within limit (pick {A = Reckoned} b (record { refusal = 0; fund = fund r i N f +ℤ left }) (record { refusal = 11; fund = pos 0 }) .fund)
       go true e = between-fact _ _ _ (both-second (alphasFit r i f N) _ e)
       go false e = within-pos (omega arith)
 
@@ -189,16 +190,19 @@ module _ {q n : ℕ} {v u : List ℤ} (held : Invested q n v u) where
     pub total-fits : SFits w64 (s +ℤ t)
     total-fits = rw (total-turn .is) (within-fits {b = (k + 1) * limit} (omega (arith, held .few)) (sum-within (k + 1) limit (invested v u n) (λ j b. invested-within j (omega arith))))
 
+  pub total-within : {s : ℤ} → s ≡ sum n (invested v u n) → Within (30 * limit) s
+  total-within e = rw e (within-more (mul-le-mul-right limit (held .few)) (sum-within n limit (invested v u n) invested-within))
+
   pub total-end : {s : ℤ} {k : ℕ} → n ≤ k → Totalled v u n s k → s ≡ sum n (invested v u n)
   total-end {s} {k} l a = let e : k ≡ n = omega (arith, a .upto) in rw e at (a .is)
 
--- ---- the fund of a flow, from its cells
-module _ (r : ℕ → ℕ) (i f : ℕ → ℤ) (N : ℕ) where
-  pub fund-refused : {s : ℤ} → s ≡ fund r i N f → isWithin limit s ≡ false → record { refusal = 11; fund = pos 0 } ≡ fundReckoned r i f N
+-- ---- the fund of a flow, from its cells, with what is left at the horizon
+module _ (r : ℕ → ℕ) (i f : ℕ → ℤ) (N : ℕ) (left : ℤ) where
+  pub fund-refused : {s : ℤ} → s ≡ fund r i N f +ℤ left → isWithin limit s ≡ false → record { refusal = 11; fund = pos 0 } ≡ fundReckoned r i f N left
   unfolding fundReckoned fundFits
   fund-refused e h = rw (rw e at h, both-not (alphasFit r i f N))
 
-  pub fund-accepted : {s : ℤ} → s ≡ fund r i N f → alphasFit r i f N ≡ true → isWithin limit s ≡ true → record { refusal = 0; fund = s } ≡ fundReckoned r i f N
+  pub fund-accepted : {s : ℤ} → s ≡ fund r i N f +ℤ left → alphasFit r i f N ≡ true → isWithin limit s ≡ true → record { refusal = 0; fund = s } ≡ fundReckoned r i f N left
   unfolding fundReckoned fundFits
   fund-accepted e a h = rw (a, rw e at h, e)
 

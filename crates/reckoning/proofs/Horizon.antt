@@ -1,24 +1,25 @@
 -- The horizon: the exact fund is the reckoned one, with what the last floors leave over and what the cells' errors come to.
 use mathlib.Core.Path.{_≡_, refl, sym, ap, _∙_, subst₂}
 use mathlib.Core.Bool.{true}
-use Prim.Native.Nat.{ℕ, _+_, _-_, _*_, _≤_, _<_}
+use Prim.Native.Nat.{ℕ, _+_, _-_, _*_, _^_, _≤_, _<_}
 use native.Mathlib.Nat.{le-trans, le-of-eq, mul-le-mul-right, mul-lt-mul-of-pos-right, le-of-lt}
 use native.Mathlib.Omega.{arith}
 use lib.IntN.{ℤ, pos, natAbs, _+ℤ_, _-ℤ_, _*ℤ_}
+use lib.Pow.{pow-add}
 use lib.Signed.{leZ, _≤ℤ_, _<ℤ_}
 use Rattle.whole.specs.Range.{million}
 use Rattle.whole.specs.Floor.{shareOf}
 use Rattle.whole.specs.Sum.{sum, sumℕ}
 use Rattle.whole.proofs.Bridge.{at, #, _⊕_, _⊖_, _⊗_, ⊝, whole}
-use Rattle.whole.proofs.Laws.{<ℤ→≤ℤ, pos-nonneg, +ℤ-nonneg, *ℤ-nonneg}
+use Rattle.whole.proofs.Laws.{<ℤ→≤ℤ, pos-nonneg, *ℤ-assoc, *ℤ-mono, +ℤ-nonneg, *ℤ-nonneg}
 use Rattle.whole.proofs.Range.{abs-within, abs-self, abs-mul}
 use Rattle.whole.proofs.Floor.{rest, rest-lt}
 use Rattle.whole.proofs.Test.{all-at, le-true}
 use Rattle.whole.proofs.Sum.{sum-add, sum-pos, sum-abs, sum-nonneg, sumℕ-mono, sumℕ-const}
 use Rattle.reckoning.specs.Reckoning.{w, alpha, fund}
-use Rattle.reckoning.specs.Exact.{H}
+use Rattle.reckoning.specs.Exact.{H, withLeft}
 use Rattle.reckoning.specs.Bound.{h, G, B}
-use Rattle.reckoning.specs.Theorem.{Given, Floors, FromBelow, Near, noneNegative}
+use Rattle.reckoning.specs.Theorem.{Given, Floors, Rounded, FromBelow, Near, noneNegative}
 use Rattle.reckoning.proofs.Recursion.{fund-is, H-is}
 use Rattle.reckoning.proofs.Powers.{P, P-pred, P-positive}
 use Rattle.reckoning.proofs.Units.{Units, units-floor, units-recount, units-sum, units-later}
@@ -46,6 +47,23 @@ bracket-from-below {N} {y = y} k = record { low = omega (whole, k .low, at ((# y
 pub bracket-near : {N c b : ℕ} {z y : ℤ} → c < b → Bracket N c b z y → Near N z y b
 unfolding P
 bracket-near {N} {c} {b} {y = y} l k = record { low = omega (whole, k .low, mul-lt-mul-of-pos-right l (P-positive N), at ((# y ⊖ # (pos c)) ⊗ # (pos (P N))), at ((# y ⊖ # (pos b)) ⊗ # (pos (P N)))); high = k .high }
+
+-- what is left at the horizon is added on both sides, and its rounding widens the bracket
+pub bracket-left : {N c b e : ℕ} {y f s z : ℤ} → 1 ≤ N → Bracket N c b y f → Rounded e s z → Bracket N c (b + e) (withLeft N y s) (f +ℤ z)
+unfolding P withLeft
+bracket-left {N} {c} {b} {e} {y} {f} {s} {z} some k a =
+    let n : ℕ = 10 ^ (12 * N - 6) in
+    let u : ℤ = pos n in
+    let U : ℤ = pos (P N) in
+    let p : P N ≡ million * n = ap (λ (m : ℕ). 10 ^ m) (omega arith) ∙ pow-add 10 6 (12 * N - 6) in
+    let low : (z *ℤ pos million *ℤ u) ≤ℤ (s *ℤ u) = *ℤ-mono (pos-nonneg n) (a .low) in
+    let high : (s *ℤ u) ≤ℤ ((z +ℤ pos e) *ℤ pos million *ℤ u) = *ℤ-mono (pos-nonneg n) (a .high) in
+    let zs : z *ℤ pos million *ℤ u ≡ z *ℤ U = *ℤ-assoc z (pos million) u ∙ ap (λ (m : ℕ). z *ℤ pos m) (sym p) in
+    let es : (z +ℤ pos e) *ℤ pos million *ℤ u ≡ (z +ℤ pos e) *ℤ U = *ℤ-assoc (z +ℤ pos e) (pos million) u ∙ ap (λ (m : ℕ). (z +ℤ pos e) *ℤ pos m) (sym p) in
+    record {
+      low = omega (whole, k .low, low, zs, at ((# f ⊖ # (pos c)) ⊗ # U), at (# z ⊗ # U), at ((# f ⊕ # z ⊖ # (pos c)) ⊗ # U), at (# y ⊕ # (s *ℤ u)));
+      high = omega (whole, k .high, high, es, at ((# f ⊕ # (pos b)) ⊗ # U), at ((# z ⊕ # (pos e)) ⊗ # U), at ((# f ⊕ # z ⊕ # (pos (b + e))) ⊗ # U), at (# y ⊕ # (s *ℤ u)));
+    }
 
 module _ {r : ℕ → ℕ} {i : ℕ → ℤ} {N : ℕ} (given : Given r i N) (f x : ℕ → ℤ) (floors : Floors f x) where
   -- what the floors at the horizon leave over, and what the cells' errors come to

@@ -1,36 +1,45 @@
 -- The theorem (document 01, "Bound, form, verdict"): for every rollover whose shares come to at most 1,000,000, every N from 1 on, and
 -- every pattern whose rates i_2 to i_N are at most 1,000,000 without their sign, the fund and the form are as close to the exact fund
 -- as their bounds say, and from below where no rate is below zero.
-use mathlib.Core.Path.{_≡_}
-use Prim.Native.Nat.{ℕ, _+_, _*_, _^_}
+use mathlib.Core.Path.{_≡_, refl}
+use Prim.Native.Nat.{ℕ, _+_, _-_, _*_, _^_}
 use native.Mathlib.Omega.{arith}
-use lib.IntN.{ℤ, pos, _+ℤ_, _-ℤ_, _*ℤ_}
+use lib.IntN.{ℤ, pos, _+ℤ_, _-ℤ_, _*ℤ_, +ℤ-idr}
 use lib.Signed.{_≤ℤ_, _<ℤ_}
 use Rattle.whole.specs.Range.{million}
 use Rattle.whole.specs.Sum.{Σℕ, Σℤ}
-use Rattle.whole.proofs.Bridge.{whole, at, #, _⊕_, _⊖_}
+use Rattle.whole.proofs.Bridge.{whole, at, #, _⊕_, _⊖_, _⊗_}
 use Rattle.whole.proofs.Laws.{pos-nonneg, ≤ℤ-trans, <ℤ→≤ℤ, *ℤ-mono}
+use Rattle.whole.proofs.Solver.{ring, _≈_, ! }
 use Rattle.reckoning.specs.Reckoning.{fund}
-use Rattle.reckoning.specs.Exact.{H}
+use Rattle.reckoning.specs.Exact.{H, withLeft}
 use Rattle.reckoning.specs.Bound.{h, B, value}
-use Rattle.reckoning.specs.Theorem.{Given, Floors, FromBelow, Near, Close}
+use Rattle.reckoning.specs.Theorem.{Given, Floors, Rounded, FromBelow, Near, Close}
 use Rattle.reckoning.proofs.BoundLaws.{G-below-B}
 use Rattle.reckoning.proofs.Linear.{H-scale}
-use Rattle.reckoning.proofs.Horizon.{from-below-bracket, near-bracket, bracket-near, bracket-from-below, fund-bracket, fund-bracket-nonneg}
-use Rattle.reckoning.proofs.Form.{whole-floors, form-bracket}
-pub use Rattle.reckoning.proofs.Form.{flow-floors, H-parts}
+use Rattle.reckoning.proofs.Horizon.{from-below-bracket, near-bracket, bracket-near, bracket-from-below, bracket-left, fund-bracket, fund-bracket-nonneg}
+use Rattle.reckoning.proofs.Form.{whole-floors, whole-rounded, form-bracket}
+pub use Rattle.reckoning.proofs.Form.{flow-floors, left-rounded, none-rounded, left-parts}
+
+nothing-left : (N : ℕ) (z : ℤ) → withLeft N z (pos 0 *ℤ pos million) ≡ z
+unfolding withLeft
+nothing-left N z = ring 3 (λ z m u. z ⊕ ! (pos 0) ⊗ m ⊗ u ≈ z) refl z (pos million) (pos (10 ^ (12 * N - 6)))
 
 module _ {r : ℕ → ℕ} {i : ℕ → ℤ} {N : ℕ} (given : Given r i N) where
-  -- the fund of any flow: a plan's is one by `flow-floors`
-  pub fund-close : (f x : ℕ → ℤ) → Floors f x → Close i N (H r i N x) (fund r i N f) (B (h i N) N)
-  fund-close f x floors = record {
-    either = bracket-near (G-below-B (h i N) N (given .years)) (fund-bracket given f x floors);
-    below = λ up. bracket-from-below (fund-bracket-nonneg given f x floors up);
+  -- the fund of any flow, with z left at the horizon for s millionths: a plan's are such by `flow-floors` and `left-rounded`
+  pub fund-close : (f x : ℕ → ℤ) → Floors f x → {e : ℕ} {s z : ℤ} → Rounded e s z → Close i N (withLeft N (H r i N x) s) (fund r i N f +ℤ z) (B (h i N) N + e)
+  fund-close f x floors left = record {
+    either = bracket-near (omega (arith, G-below-B (h i N) N (given .years))) (bracket-left (given .years) (fund-bracket given f x floors) left);
+    below = λ up. bracket-from-below (bracket-left (given .years) (fund-bracket-nonneg given f x floors up) left);
   }
 
-  -- that of a flow in whole amounts, as an instrument's is
-  pub amounts-close : (y : ℕ → ℤ) → Close i N (H r i N y *ℤ pos million) (fund r i N y) (B (h i N) N)
-  amounts-close y = rw (← H-scale r i N (pos million) y) (fund-close y (λ k. y k *ℤ pos million) (whole-floors y))
+  -- that of a flow in whole amounts with an amount left, as an instrument's is, for a bound that may be e wider
+  pub amounts-close : (e : ℕ) (y : ℕ → ℤ) (z : ℤ) → Close i N (withLeft N (H r i N y *ℤ pos million) (z *ℤ pos million)) (fund r i N y +ℤ z) (B (h i N) N + e)
+  amounts-close e y z = rw (← H-scale r i N (pos million) y) (fund-close y (λ k. y k *ℤ pos million) (whole-floors y) (whole-rounded e z))
+
+  -- and with nothing left, as that of Q is
+  pub constant-close : (e : ℕ) (y : ℕ → ℤ) → Close i N (H r i N y *ℤ pos million) (fund r i N y) (B (h i N) N + e)
+  constant-close e y = rw (nothing-left N (H r i N y *ℤ pos million), +ℤ-idr (fund r i N y)) at (amounts-close e y (pos 0))
 
 -- the form of any coefficients K, each close to its exact part y, and any constant Q, close to x: what they are parts of is z, by
 -- `H-parts` the exact fund of a plan

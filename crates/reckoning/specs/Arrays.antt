@@ -4,7 +4,7 @@ use mathlib.Core.Bool.{Bool, true}
 use mathlib.Core.List.{List}
 use Prim.Native.Nat.{ℕ, _+_, _-_, _*_, _≤_, _<_}
 use lib.ListN.{getD, replicate}
-use lib.IntN.{ℤ, pos, natAbs}
+use lib.IntN.{ℤ, pos, natAbs, _+ℤ_}
 use Rattle.whole.specs.Range.{million, limit, Between, Within}
 use Rattle.whole.specs.Sum.{Σℕ}
 use Rattle.whole.specs.Test.{pick, both, all, isWithin}
@@ -73,14 +73,14 @@ module _ (r : ℕ → ℕ) (i : ℕ → ℤ) (f : ℕ → ℤ) where
     pub is : v ≡ alphasOf j
     pub fit : alphasFit j ≡ true
 
-  -- check 11 for the N cells and the fund
-  unfoldable pub fundFits : (N : ℕ) → Bool
-  fundFits N = both (alphasFit N) (isWithin limit (fund r i N f))
+  -- check 11 for the N cells, and for the fund with the amount that is left at the horizon
+  unfoldable pub fundFits : (N : ℕ) (left : ℤ) → Bool
+  fundFits N left = both (alphasFit N) (isWithin limit (fund r i N f +ℤ left))
 
-  -- the fund, unless check 11 refuses it or a cell
-  unfoldable pub fundReckoned : (N : ℕ) → Reckoned
-  fundReckoned N = pick (fundFits N)
-      (record { refusal = 0; fund = fund r i N f })
+  -- that fund, unless check 11 refuses it or a cell
+  unfoldable pub fundReckoned : (N : ℕ) (left : ℤ) → Reckoned
+  fundReckoned N left = pick (fundFits N left)
+      (record { refusal = 0; fund = fund r i N f +ℤ left })
       (record { refusal = 11; fund = pos 0 })
 
 -- cells within the limit, and weights of which none is left from w(q) on

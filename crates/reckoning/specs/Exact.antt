@@ -22,6 +22,10 @@ module _ (r : ℕ → ℕ) (i : ℕ → ℤ) where
   unfoldable pub E : (x : ℕ → ℤ) → ℕ → ℤ
   E x = course (E-step x)
 
-  -- H: the exact fund is H / 10^(12 N)
+  -- H of a flow: the exact fund is H / 10^(12 N)
   unfoldable pub H : (N : ℕ) → (x : ℕ → ℤ) → ℤ
   H N x = Σℤ 2 (N + 1) (λ k. E x k *ℤ pos (w r (N + 1 - k)) *ℤ pos (10 ^ (12 * (N + 1 - k))))
+
+-- H with s millionths of an amount left at the horizon (document 02, item 6)
+unfoldable pub withLeft : (N : ℕ) (H s : ℤ) → ℤ
+withLeft N H s = H +ℤ s *ℤ pos (10 ^ (12 * N - 6))

@@ -15,6 +15,10 @@ w r d = million - Σℕ 1 d r
 unfoldable pub paid : (n : ℕ) (a : ℕ → ℕ → ℤ) (p : ℕ → ℕ) → ℕ → ℤ
 paid n a p k = Σℤ 1 n (λ j. a k j *ℤ pos (p j))
 
+-- what is left of n instruments at the horizon, in millionths of an amount: the sum over j of cost_j × p_j (document 02, item 6)
+unfoldable pub left : (n : ℕ) (cost : ℕ → ℤ) (p : ℕ → ℕ) → ℤ
+left n cost p = Σℤ 1 n (λ j. cost j *ℤ pos (p j))
+
 -- the allocation's flow in year k: what it pays, in whole amounts, and c_k, which no allocation changes (b_k - o_k)
 unfoldable pub flow : (n : ℕ) (a : ℕ → ℕ → ℤ) (c : ℕ → ℤ) (p : ℕ → ℕ) → ℕ → ℤ
 flow n a c p k = floor (paid n a p k) million +ℤ c k

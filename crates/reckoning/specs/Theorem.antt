@@ -20,6 +20,11 @@ pub record Given (r : ℕ → ℕ) (i : ℕ → ℤ) (N : ℕ) : Type 0 where
 abbrev pub Floors : (f x : ℕ → ℤ) → Type 0
 Floors f x = (k : ℕ) → IsFloor (x k) million (f k)
 
+-- z is s millionths in whole amounts: never above, and at most e below
+pub record Rounded (e : ℕ) (s z : ℤ) : Type 0 where
+  pub low : (z *ℤ pos million) ≤ℤ s
+  pub high : s ≤ℤ ((z +ℤ pos e) *ℤ pos million)
+
 -- ---- what is claimed of a number y in amounts, where the exact fund is H / 10^(12 N)
 -- the exact fund is never below y, and less than y + b
 pub record FromBelow (N : ℕ) (H y : ℤ) (b : ℕ) : Type 0 where

@@ -123,7 +123,7 @@ fn total(v: &[i64; 30], w: &[i64; 30], n: usize, q: usize) -> i64
     s
 }
 
-// The fund of a flow over n years; refused 11, and 0, where check 11 does not take it or a cell.
+// The fund of a flow over n years, with the amount that is left at the horizon; refused 11, and 0, where check 11 does not take it or a cell.
 pub fn fund(
     flow: &[i64; 30],
     r: &[i64; 30],
@@ -131,11 +131,13 @@ pub fn fund(
     i: &[i64; 30],
     n: usize,
     q: usize,
+    left: i64,
 ) -> Reckoned
     requires { ⌜ Ready q (now r) (now w) (now i) ⌝ }
     requires { ⌜ Amounts (now flow) ⌝ }
     requires { ⌜ Years n ⌝ }
-    ensures { λ s. ⌜ s ≡ fundReckoned (sharesOf (now (r .entry))) (ratesOf (now (i .entry))) (amountsOf (now (flow .entry))) n ⌝ }
+    requires { ⌜ Within limit left ⌝ }
+    ensures { λ s. ⌜ s ≡ fundReckoned (sharesOf (now (r .entry))) (ratesOf (now (i .entry))) (amountsOf (now (flow .entry))) n left ⌝ }
     ensures { λ s. ⌜ Within limit (s .fund) ⌝ }
 {
     let mut v = [0i64; 30];
@@ -149,7 +151,7 @@ pub fn fund(
         }
         v[j] = x;
     }
-    let s = total(&v, w, n, q);
+    let s = total(&v, w, n, q) + left;
     if !fits(s) {
         return Reckoned {
             refusal: 11,
@@ -194,7 +196,7 @@ pub fn bound(i: &[i64; 30], n: usize) -> i64
     requires { ⌜ Rates (now i) ⌝ }
     requires { ⌜ Years n ⌝ }
     ensures { λ s. ⌜ s ≡ pos (B (largestOf (ratesOf (now (i .entry))) n) n) ⌝ }
-    ensures { λ s. ⌜ Between (pos 0) (pos 4_294_967_296) s ⌝ }
+    ensures { λ s. ⌜ Between (pos 0) (pos 4_294_967_295) s ⌝ }
 {
     let h = largest(i, n);
     let mut g: i64 = 1;

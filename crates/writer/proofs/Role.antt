@@ -1,17 +1,17 @@
--- Records by role: no role is past 7, and each but a pattern's is that of one kind, whose number it is.
+-- Records by role: no role is past 9, 8 is none, and each but a pattern's is that of one kind, whose number it is.
 use mathlib.Core.Path.{_≡_, refl, sym, ap, _∙_}
-use mathlib.Core.Bool.{Bool, true}
+use mathlib.Core.Bool.{Bool, true, not}
 use mathlib.Core.Logic.{⊎-elim}
 use Prim.Native.Nat.{ℕ, suc, _≤_, _<_}
 use native.Mathlib.Omega.{arith}
-use borrow.Author.Tests.{eqb-true, ne-eqb, leb-true}
+use borrow.Author.Tests.{eqb-true, eq-eqb, ne-eqb, leb-true}
 use lib.Dec.{eqb, leb}
 use lib.ListN.{length}
 use Rattle.whole.specs.Entry.{nth}
 use Rattle.whole.specs.Test.{pick, all}
 use Rattle.whole.proofs.Entry.{nth-outside}
 use Rattle.whole.proofs.Laws.{ℕ-cases}
-use Rattle.whole.proofs.Test.{all-at}
+use Rattle.whole.proofs.Test.{all-at, false-true}
 use Rattle.plan.specs.Held.{Held}
 use Rattle.planfile.specs.Kinds.{roles, roleOf}
 use Rattle.planfile.specs.Groups.{groupsOf, countOf}
@@ -37,9 +37,14 @@ module _ (H : Held) (role j : ℕ) (l : j < countOf (groupsOf (H .shape)) role) 
   some : 0 < roleOf kind
   some = rw stands (role-some (H .shape) role j l)
 
-  pub role-few : role ≤ 7
+  pub role-few : role ≤ 9
   unfolding roleOf nth all
-  role-few = rw stands at (leb-true (roleOf kind) 7 (kind-passes (λ k. leb (roleOf k) 7) refl kind some))
+  role-few = rw stands at (leb-true (roleOf kind) 9 (kind-passes (λ k. leb (roleOf k) 9) refl kind some))
+
+  -- a slope stands where a list does
+  pub no-slope : role ≡ 8 → ⊥
+  unfolding roleOf nth all
+  no-slope e = false-true (sym (ap not (eq-eqb (roleOf kind) 8 (stands ∙ e))) ∙ kind-passes (λ k. not (eqb (roleOf k) 8)) refl kind some)
 
   pub kind-own : (role ≡ 5 → ⊥) → kind ≡ role
   unfolding roleOf nth all

@@ -194,6 +194,10 @@ fn put_record(b: &mut [u8], at: usize, plan: Plan, role: usize, j: usize) -> usi
             let opening = plan.opening;
             put_amounts_record(b, at, 7, &opening, years)
         }
+        9 => {
+            let cost = plan.cost;
+            put_amounts_record(b, at, 9, &cost, plan.instruments)
+        }
         _ => at,
     }
 }

@@ -18,27 +18,27 @@ use Rattle.finder.proofs.+search_from.{statement}
 use Rattle.finder.proofs.+search_from.Tie.{close}
 
 -- the instruments behind this one
-abbrev μ-search-from : Measures 5 search-from-kinds.ps ℕ
-μ-search-from κs a = a .1 .1 .1 .1 .1 .1 .1 .1 .0
+abbrev μ-search-from : Measures 6 search-from-kinds.ps ℕ
+μ-search-from κs a = a .1 .1 .1 .1 .1 .1 .1 .1 .1 .0
 
-abbrev search-from-at : ℕ → In 5 search-from-kinds.ps
+abbrev search-from-at : ℕ → In 6 search-from-kinds.ps
 search-from-at t =
-    and 5 search-from-kinds.ps (is 5 search-from-kinds.ps μ-search-from t) search-from.Pre
+    and 6 search-from-kinds.ps (is 6 search-from-kinds.ps μ-search-from t) search-from.Pre
 
-abbrev search-from-below : ℕ → In 5 search-from-kinds.ps
+abbrev search-from-below : ℕ → In 6 search-from-kinds.ps
 search-from-below t =
-    and 5 search-from-kinds.ps (falls 5 search-from-kinds.ps _<_ μ-search-from t) search-from.Pre
+    and 6 search-from-kinds.ps (falls 6 search-from-kinds.ps _<_ μ-search-from t) search-from.Pre
 
 -- what is known of the functions that it calls
 abbrev claims : ℕ → search-from-lts.Claims
 claims t = (with-share-reads.Asked, with-share-reads.Learnt, below-none-reads.Asked, below-none-reads.Learnt, look-reads.Asked, look-reads.Learnt, search-from-below t, search-from.Post)
 
 abbrev search-from-Inv-loop : search-from-lts.InvT-loop
-search-from-Inv-loop shape lines rates payments constant rollover shares at others parts unit s₀ s =
-    Trying (passes shape lines rates payments constant rollover) shares at others parts unit s
+search-from-Inv-loop shape lines rates payments constant rollover cost shares at others parts unit s₀ s =
+    Trying (passes shape lines rates payments constant rollover cost) shares at others parts unit s
 
 abbrev search-from-μ-loop : search-from-lts.MeasureT-loop
-search-from-μ-loop shape lines rates payments constant rollover shares at others parts unit s₀ s = s
+search-from-μ-loop shape lines rates payments constant rollover cost shares at others parts unit s₀ s = s
 
 search-from-mul-with-share : (t : ℕ) → search-from-lts.Need-mul-with-share (claims t) (search-from-at t) search-from.Post search-from-Inv-loop search-from-μ-loop
 search-from-mul-with-share t c = omega (arith, share-fits (c .before .pre .1 .1) (c .before .args .parts) (omega arith))
@@ -55,7 +55,7 @@ search-from-returns : (t : ℕ) → search-from-lts.Need-returns (claims t) (sea
 search-from-returns t c =
     let w = c .before .before in
     last-tells _ _ _ _ _ _ (w .before .if1 .taken) (w .with-share .ensures)
-    (passes-not _ _ _ _ _ _ _ (c .before .below-none .ensures) (not-true _ (c .if2 .taken)))
+    (passes-not _ _ _ _ _ _ _ _ (c .before .below-none .ensures) (not-true _ (c .if2 .taken)))
 
 search-from-look-requires : (t : ℕ) → search-from-lts.Need-look-requires (claims t) (search-from-at t) search-from.Post search-from-Inv-loop search-from-μ-loop
 search-from-look-requires t c κs =
@@ -68,7 +68,7 @@ search-from-returns-2 t c =
     let b = c .before .before in
     let w = b .before in
     last-tells _ _ _ _ _ _ (w .before .if1 .taken) (w .with-share .ensures)
-    (passes-look _ _ _ _ _ _ _ (b .below-none .ensures) (not-false _ (c .before .if2 .left)) (c .look .ensures))
+    (passes-look _ _ _ _ _ _ _ _ (b .below-none .ensures) (not-false _ (c .before .if2 .left)) (c .look .ensures))
 
 search-from-add-s : (t : ℕ) → search-from-lts.Need-add-s (claims t) (search-from-at t) search-from.Post search-from-Inv-loop search-from-μ-loop
 search-from-add-s t c = omega (arith, c .before .pre .1 .1 .few)

@@ -8,42 +8,52 @@ use lib.ListN.{getD}
 use mir.Syntax.{w64}
 use mir.Val.{SFits}
 use Rattle.whole.specs.Test.{all}
-use Rattle.whole.proofs.Range.{back, within-fits}
+use Rattle.whole.proofs.Range.{back, within-fits, ok64}
 use Rattle.whole.proofs.Test.{all-none, all-more, all-end, all-fails}
 use Rattle.reckoning.specs.Arrays.{ratesOf}
 use Rattle.planner.specs.Calls.{flowReckoned}
 use Rattle.planner.specs.Arrays.{sharedIn}
-use Rattle.planner.proofs.Held.{ready, flow-amounts, flow-reckoned}
+use Rattle.planner.proofs.Held.{ready, cost-weighable, flow-amounts, flow-reckoned}
 use Rattle.finder.specs.Lines.{fundPasses}
 use Rattle.finder.proofs.LineLaws.{fund-refused, fund-below, fund-passes}
 use Rattle.finder.proofs.funds_pass.Statement.{statement}
 use Rattle.finder.proofs.funds_pass.Tie as tie
 
 abbrev Inv-loop : tie.InvT-loop
-Inv-loop common payments rates m flow t₀ t = (t ≤ m) × (all t (λ t. fundPasses (sharedIn common payments) (ratesOf (getD rates t []))) ≡ true)
+Inv-loop common payments rates m flow left t₀ t = (t ≤ m) × (all t (λ t. fundPasses (sharedIn common payments) (ratesOf (getD rates t []))) ≡ true)
 
 abbrev μ-loop : tie.MeasureT-loop
-μ-loop common payments rates m flow t₀ t = m - t
+μ-loop common payments rates m flow left t₀ t = m - t
+
+left-of-requires : tie.Need-left-of-requires Inv-loop μ-loop
+left-of-requires c κs = cost-weighable (c .before .pre .0)
+
+left-fits : (c : tie.After-left-of Inv-loop μ-loop) → SFits w64 (c .left-of .result)
+left-fits c = ok64 (c .left-of .result) (c .left-of .ok)
 
 loop-holds : tie.Need-loop-holds Inv-loop μ-loop
 loop-holds c = (omega arith, all-none _)
 
 fund-at-requires : tie.Need-fund-at-requires Inv-loop μ-loop
 fund-at-requires c κs =
-    let f = c .before .before .before .before in
+    let l = c .before .before .before .before in
+    let f = l .before in
     let p = f .before .pre in
-    (ready (p .0) (p .1 .1 _ (c .before .before .loop-test .taken)), (flow-amounts (p .0) (f .flow-of .ensures), p .0 .years))
+    simp (back, left-fits l) (ready (p .0) (p .1 .1 _ (c .before .before .loop-test .taken)), (flow-amounts (p .0) (f .flow-of .ensures), (p .0 .years, l .left-of .ensures .1)))
 
 -- the fund in the pattern at t
 module _ (c : tie.After-fund-at Inv-loop μ-loop) where
   abbrev turn : tie.In-loop Inv-loop μ-loop
   turn = c .before .before .before
 
+  abbrev weighed : tie.After-left-of Inv-loop μ-loop
+  weighed = turn .before .before
+
   abbrev flowed : tie.After-flow-of Inv-loop μ-loop
-  flowed = turn .before .before
+  flowed = weighed .before
 
   fund-is : c .fund-at .result ≡ flowReckoned (sharedIn (flowed .before .args .common) (flowed .before .args .payments .now)) (ratesOf (getD (flowed .before .args .rates .now) (turn .before .loop .t) []))
-  fund-is = c .fund-at .ensures .0 ∙ flow-reckoned (flowed .before .pre .0) (flowed .flow-of .ensures) _
+  fund-is = simp (back, left-fits weighed) at (c .fund-at .ensures .0) ∙ flow-reckoned (flowed .before .pre .0) (flowed .flow-of .ensures) _ (weighed .left-of .ensures .0)
 
   fund-fits : SFits w64 (c .fund-at .result .fund)
   fund-fits = within-fits (omega arith) (c .fund-at .ensures .1)
@@ -75,6 +85,7 @@ funds-pass-spec =
     Inv-loop
     μ-loop
     (λ c κs. c .pre .0)
+    left-of-requires
     loop-holds
     (λ c. omega arith) (λ c. omega arith)
     fund-at-requires

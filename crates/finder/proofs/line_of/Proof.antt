@@ -19,24 +19,24 @@ returns : tie.Need-returns
 returns c = line-refused _ _ (c .before .form-at .ensures) (c .if1 .taken)
 
 -- Q, the bound, and what is made of them
-module _ (c : tie.After-t22) where
+module _ (c : tie.After-t23) where
   abbrev formed : tie.After-form-at
   formed = c .before .before .before .before .before .before .before .before
 
-  abbrev bounded : tie.After-bound
+  abbrev bounded : tie.After-bound-at
   bounded = c .before .before .before .before .before .before
 
   abbrev q : ℤ
   q = formed .form-at .result .constant
 
   abbrev b : ℤ
-  b = bounded .bound .result
+  b = bounded .bound-at .result
 
   q-within : Within limit q
   q-within = form-constant-within _ _ (formed .form-at .ensures) (bounded .before .if1 .left)
 
   b-within : Within 4_294_967_296 b
-  b-within = omega (whole, bounded .bound .ensures .1)
+  b-within = omega (whole, bounded .bound-at .ensures .1)
 
   twice-within : Within (2 * 4_294_967_296) (pos 2 *ℤ b)
   twice-within = within-mul {b = 2} (within-pos (omega arith)) b-within
@@ -61,31 +61,31 @@ module _ (c : tie.After-t22) where
   k j = getD (formed .form-at .result .coefficients) j (pos 0)
 
   k1-fits : SFits w64 (k 0)
-  k1-fits = ok64 (k 0) (c .before .before .before .t13 .given)
+  k1-fits = ok64 (k 0) (c .before .before .before .t14 .given)
 
   k2-fits : SFits w64 (k 1)
-  k2-fits = ok64 (k 1) (c .before .before .t16 .given)
+  k2-fits = ok64 (k 1) (c .before .before .t17 .given)
 
   k3-fits : SFits w64 (k 2)
-  k3-fits = ok64 (k 2) (c .before .t19 .given)
+  k3-fits = ok64 (k 2) (c .before .t20 .given)
 
   k4-fits : SFits w64 (k 3)
-  k4-fits = ok64 (k 3) (c .t22 .given)
+  k4-fits = ok64 (k 3) (c .t23 .given)
 
-mul-t23 : tie.Need-mul-t23
-mul-t23 c = simp (back, b-fits c) (twice-fits c)
+mul-t24 : tie.Need-mul-t24
+mul-t24 c = simp (back, b-fits c) (twice-fits c)
 
-add-t24 : tie.Need-add-t24
-add-t24 c = simp (back, b-fits c, q-fits c, twice-fits c) (sum-fits c)
+add-t25 : tie.Need-add-t25
+add-t25 c = simp (back, b-fits c, q-fits c, twice-fits c) (sum-fits c)
 
-mul-t25 : tie.Need-mul-t25
-mul-t25 c = simp (back, b-fits c, q-fits c, twice-fits c, sum-fits c) (product-fits c)
+mul-t26 : tie.Need-mul-t26
+mul-t26 c = simp (back, b-fits c, q-fits c, twice-fits c, sum-fits c) (product-fits c)
 
 returns-2 : tie.Need-returns-2
 unfolding boundAt
 returns-2 c =
     simp (back, b-fits c, q-fits c, twice-fits c, sum-fits c, product-fits c, k1-fits c, k2-fits c, k3-fits c, k4-fits c)
-    (line-made _ _ (formed c .form-at .ensures) (bounded c .before .if1 .left) (bounded c .bound .ensures .0))
+    (line-made _ _ (formed c .form-at .ensures) (bounded c .before .if1 .left) (bounded c .bound-at .ensures .0))
 
 pub line-of-spec : {M : Type 1} → statement M
 line-of-spec =
@@ -95,7 +95,7 @@ line-of-spec =
     returns
     (λ c κs. search needs)
     (λ c. search needs) (λ c. search needs) (λ c. search needs) (λ c. search needs)
-    mul-t23
-    add-t24
-    mul-t25
+    mul-t24
+    add-t25
+    mul-t26
     returns-2)

@@ -6,7 +6,7 @@ use Rattle.finder.proofs.look.Statement.{statement}
 use Rattle.finder.proofs.look.Tie as tie
 
 -- what is prepared of the plan, with these shares
-prepared : (c : tie.Start) → Prepared (commonWith (c .args .shape) (c .args .constant .now) (c .args .rollover .now) (c .args .shares)) (c .args .payments .now)
+prepared : (c : tie.Start) → Prepared (commonWith (c .args .shape) (c .args .constant .now) (c .args .rollover .now) (c .args .cost .now) (c .args .shares)) (c .args .payments .now)
 prepared c = c .pre .0 .prepared (c .args .shares) (c .pre .1)
 
 weights-requires : tie.Need-weights-requires
@@ -14,14 +14,14 @@ weights-requires c κs = prepared (c .before) .terms
 
 funds-pass-requires : tie.Need-funds-pass-requires
 funds-pass-requires c κs =
-    let w = c .before in
+    let w = c .before .before in
     let s = w .before .before .before in
     (rw (w .widened .ensures, w .before .weights .ensures) (prepared s), (s .pre .0 .patterns-few, s .pre .0 .rate))
 
 returns : tie.Need-returns
 unfolding looked
 returns c =
-    let w = c .before .before in
+    let w = c .before .before .before in
     rw (← w .widened .ensures) (c .funds-pass .ensures)
 
 pub look-spec : {M : Type 1} → statement M

@@ -35,9 +35,9 @@ lines-of-requires c κs =
     let ok = paid .before .before .before .before .pre .0 in
     (prepared-is _ ok (paid .before .common-of .ensures) (paid .payments-of .ensures), (ok .head .patterns-few, rates-each _ ok (c .before .before .put-rates .ensures)))
 
-module _ (c : tie.After-r2) where
+module _ (c : tie.After-cost2) where
   abbrev lined : tie.After-lines-of
-  lined = c .before .before .before .before .before .before .before
+  lined = c .before .before .before .before .before .before .before .before .before
 
   abbrev rated : tie.After-put-rates
   rated = lined .before .before .before
@@ -61,15 +61,19 @@ module _ (c : tie.After-r2) where
   unfolding commonOf
   rollover-is = ap (λ (c : Common). c .rollover) (gathered .common-of .ensures)
 
+  cost-is : gathered .common-of .result .cost ≡ plan .cost
+  unfolding commonOf
+  cost-is = ap (λ (c : Common). c .cost) (gathered .common-of .ensures)
+
   -- what the search looks at
   abbrev test : List ℕ → Bool
-  test = passes (shapeOf plan) (lined .lines-of .result) (rates) (rated .before .before .payments-of .result) (gathered .before .constant-flow-of .result) (gathered .common-of .result .rollover)
+  test = passes (shapeOf plan) (lined .lines-of .result) (rates) (rated .before .before .payments-of .result) (gathered .before .constant-flow-of .result) (gathered .common-of .result .rollover) (gathered .common-of .result .cost)
 
-  can-search : Searchable (shapeOf plan) (lined .lines-of .result) (rates) (rated .before .before .payments-of .result) (gathered .before .constant-flow-of .result) (gathered .common-of .result .rollover)
-  can-search = searchable plan ok (shaped .before .pre .1 .0) (gathered .common-of .ensures) (rated .before .before .payments-of .ensures) (rated .put-rates .ensures) (lined .lines-of .ensures) (gathered .before .constant-flow-of .ensures) rollover-is
+  can-search : Searchable (shapeOf plan) (lined .lines-of .result) (rates) (rated .before .before .payments-of .result) (gathered .before .constant-flow-of .result) (gathered .common-of .result .rollover) (gathered .common-of .result .cost)
+  can-search = searchable plan ok (shaped .before .pre .1 .0) (gathered .common-of .ensures) (rated .before .before .payments-of .ensures) (rated .put-rates .ensures) (lined .lines-of .ensures) (gathered .before .constant-flow-of .ensures) rollover-is cost-is
 
   agrees : (shares : List ℕ) → sumℕ (plan .instruments) (λ j. getD shares j 0) ≡ million → test shares ≡ solventWith (numbers plan) (wideOf shares)
-  agrees = passes-is plan ok (shaped .before .pre .1 .0) (gathered .common-of .ensures) (rated .before .before .payments-of .ensures) (rated .put-rates .ensures) (lined .lines-of .ensures) (gathered .before .constant-flow-of .ensures) rollover-is
+  agrees = passes-is plan ok (shaped .before .pre .1 .0) (gathered .common-of .ensures) (rated .before .before .payments-of .ensures) (rated .put-rates .ensures) (lined .lines-of .ensures) (gathered .before .constant-flow-of .ensures) rollover-is cost-is
 
 div-search-from : tie.Need-div-search-from
 div-search-from c = parts-have _ (shaped c .before .pre .1 .1) .some
@@ -77,7 +81,7 @@ div-search-from c = parts-have _ (shaped c .before .pre .1 .1) .some
 search-from-requires : tie.Need-search-from-requires
 search-from-requires c κs =
     let p = shaped c .before in
-    subst (λ (s : Shape). Searchable s (lined c .lines-of .result) (rates c) (rated c .before .before .payments-of .result) (gathered c .before .constant-flow-of .result) (gathered c .common-of .result .rollover)
+    subst (λ (s : Shape). Searchable s (lined c .lines-of .result) (rates c) (rated c .before .before .payments-of .result) (gathered c .before .constant-flow-of .result) (gathered c .common-of .result .rollover) (gathered c .common-of .result .cost)
     × Placing (s .instruments) (replicate 4 0) 0 (p .args .plan .instruments - 1) (p .args .parts) (million / p .args .parts))
     (sym (shaped c .shape-of .ensures))
     (can-search c, search-start _ _ (ok c) (p .pre .1 .1))
@@ -90,7 +94,7 @@ module _ (c : tie.After-search-from) where
   tells : Tells (c .search-from .result) (firstThat (test (c .before)) (placements (million / begun .args .parts) (replicate 4 0) 0 (begun .args .plan .instruments - 1) (begun .args .parts)))
   tells =
       let r = c .before in
-      subst (λ (s : Shape). Tells (c .search-from .result) (firstThat (passes s (lined r .lines-of .result) (rates r) (rated r .before .before .payments-of .result) (gathered r .before .constant-flow-of .result) (gathered r .common-of .result .rollover))
+      subst (λ (s : Shape). Tells (c .search-from .result) (firstThat (passes s (lined r .lines-of .result) (rates r) (rated r .before .before .payments-of .result) (gathered r .before .constant-flow-of .result) (gathered r .common-of .result .rollover) (gathered r .common-of .result .cost))
       (placements (million / begun .args .parts) (replicate 4 0) 0 (begun .args .plan .instruments - 1) (begun .args .parts))))
       (shaped r .shape-of .ensures) (c .search-from .ensures)
 

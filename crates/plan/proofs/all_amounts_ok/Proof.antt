@@ -3,7 +3,7 @@ use mathlib.Core.Path.{_≡_, sym, _∙_}
 use mathlib.Core.Bool.{true}
 use borrow.Author.Tests.{not-true, not-false}
 use Rattle.plan.specs.Numbers.{numbers}
-use Rattle.plan.specs.Refusal.{paymentsOk, amountsOk}
+use Rattle.plan.specs.Refusal.{paymentsOk, outflowsOk, amountsOk}
 use Rattle.plan.proofs.all_amounts_ok.Statement.{statement}
 use Rattle.plan.proofs.all_amounts_ok.Tie as tie
 
@@ -18,11 +18,21 @@ returns-2 : tie.Need-returns-2
 unfolding amountsOk
 returns-2 c = rw (payments-passed (c .before .before), sym (c .before .outflows-ok .ensures) ∙ not-true _ (c .if2 .taken))
 
+outflows-passed : (c : tie.Else2) → outflowsOk (numbers (c .before .before .before .before .args .plan)) ≡ true
+outflows-passed c = sym (c .before .outflows-ok .ensures) ∙ not-false _ (c .if2 .left)
+
 returns-3 : tie.Need-returns-3
 unfolding amountsOk
 returns-3 c =
-    let d = c .before in
-    rw (payments-passed (d .before .before), sym (d .before .outflows-ok .ensures) ∙ not-false _ (d .if2 .left)) (c .opening-ok .ensures)
+    let d = c .before .before in
+    rw (payments-passed (d .before .before), outflows-passed d, sym (c .before .opening-ok .ensures) ∙ not-true _ (c .if3 .taken))
+
+returns-4 : tie.Need-returns-4
+unfolding amountsOk
+returns-4 c =
+    let e = c .before in
+    let d = e .before .before in
+    rw (payments-passed (d .before .before), outflows-passed d, sym (e .before .opening-ok .ensures) ∙ not-false _ (e .if3 .left)) (c .cost-ok .ensures)
 
 pub all-amounts-ok-spec : {M : Type 1} → statement M
 all-amounts-ok-spec =
@@ -33,4 +43,6 @@ all-amounts-ok-spec =
     (λ c κs. c .before .before .pre)
     returns-2
     (λ c κs. c .before .before .before .before .pre)
-    returns-3)
+    returns-3
+    (λ c κs. c .before .before .before .before .before .before .pre)
+    returns-4)

@@ -6,7 +6,7 @@ use Rattle.planfile.proofs.groups_of.Tie as tie
 
 returns : tie.Need-returns
 unfolding groupsOf
-returns c = rw (c .flag .ensures)
+returns c = rw (c .flag2 .ensures, c .before .flag .ensures)
 
 pub groups-of-spec : {M : Type 1} → statement M
-groups-of-spec = tie.close (tie.spec (λ c κs. search needs) returns)
+groups-of-spec = tie.close (tie.spec (λ c κs. search needs) (λ c κs. search needs) returns)

@@ -44,8 +44,12 @@ unfolding roleOf nth
 returns-9 c = rw (c .match .keys9)
 
 returns-10 : tie.Need-returns-10
+unfolding roleOf nth
+returns-10 c = rw (c .match .keys10)
+
+returns-11 : tie.Need-returns-11
 unfolding roleOf
-returns-10 c = sym (nth-outside 0 roles _ (λ l. past 9 (c .match .rest)))
+returns-11 c = sym (nth-outside 0 roles _ (λ l. past 10 (c .match .rest)))
 
 pub role-of-spec : {M : Type 1} → statement M
 role-of-spec =
@@ -60,4 +64,5 @@ role-of-spec =
     returns-7
     returns-8
     returns-9
-    returns-10)
+    returns-10
+    returns-11)

@@ -45,15 +45,19 @@ unfolding sizeOf nth
 returns-9 c = rw (c .match .keys9)
 
 returns-10 : tie.Need-returns-10
+unfolding sizeOf nth
+returns-10 c = rw (c .before .match .keys10)
+
+returns-11 : tie.Need-returns-11
 unfolding sizeOf
-returns-10 c = sym (nth-outside 0 _ _ (λ l. past 9 (c .match .rest)))
+returns-11 c = sym (nth-outside 0 _ _ (λ l. past 10 (c .match .rest)))
 
 pub size-of-spec : {M : Type 1} → statement M
 size-of-spec =
     tie.close
     (tie.spec
     (λ c. search needs) (λ c. search needs) (λ c. search needs) (λ c. search needs) (λ c. search needs)
-    (λ c. search needs) (λ c. search needs)
+    (λ c. search needs) (λ c. search needs) (λ c. search needs)
     returns
     returns-2
     returns-3
@@ -63,4 +67,5 @@ size-of-spec =
     returns-7
     returns-8
     returns-9
-    returns-10)
+    returns-10
+    returns-11)

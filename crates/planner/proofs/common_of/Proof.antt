@@ -16,7 +16,7 @@ weights-requires c κs = terms-ready _ (c .before .pre .0) (c .rollover-of .ensu
 returns : tie.Need-returns
 unfolding commonOf
 returns c =
-    let d = c .before in
+    let d = c .before .before in
     let s = d .before .before in
     let weights : d .weights .result ≡ weightsOf (numbers (s .args .plan) .r) = d .weights .ensures ∙ ap weightsOf (shares-are (s .args .plan) (s .pre .0) (d .before .rollover-of .ensures)) in
     rw (d .before .rollover-of .ensures, weights, s .pre .1)

@@ -1,10 +1,9 @@
--- `planner::fund` reckons the allocation's flow in the pattern's rates.
+-- `planner::fund` is the fund of the allocation at the pattern's rates.
 use mathlib.Core.Path.{_≡_, sym, ap₂, _∙_}
 use borrow.Author.Needs.{needs}
 use Rattle.plan.specs.Numbers.{numbers}
 use Rattle.planner.specs.Calls.{noFund, flowReckoned, callRefusal, fundAnswer}
-use Rattle.planner.specs.Arrays.{Prepared}
-use Rattle.planner.proofs.Held.{rates-ready, rates-are, prepared-is, shared-is, ready, flow-amounts, flow-reckoned}
+use Rattle.planner.proofs.Held.{rates-ready, rates-are, prepared-is, shared-is}
 use Rattle.planner.proofs.Answers.{Called, called, out-refused, out-accepted}
 use Rattle.planner.proofs.Demand3.{fund-answered}
 use Rattle.planner.proofs.fund.Statement.{statement}
@@ -31,40 +30,28 @@ common-of-requires c κs = (ok (c .before) .plan-ok, c .constant-flow-of .ensure
 payments-of-requires : tie.Need-payments-of-requires
 payments-of-requires c κs = ok (c .before .before) .plan-ok
 
--- what is prepared
-prepared : (c : tie.After-payments) → Prepared (c .before .before .common-of .result) (c .before .payments-of .result)
-prepared c = let g = c .before .before in prepared-is _ (ok (g .before .before) .plan-ok) (g .common-of .ensures) (c .before .payments-of .ensures)
-
-flow-of-requires : tie.Need-flow-of-requires
-flow-of-requires c κs = prepared c
-
 rates-of-requires : tie.Need-rates-of-requires
-rates-of-requires c κs = let o = ok (c .before .before .before .before .before) in (o .plan-ok, (o .some, o .few))
+rates-of-requires c κs = let o = ok (c .before .before .before) in (o .plan-ok, (o .some, o .few))
 
-module _ (c : tie.After-i) where
-  abbrev rated : tie.After-rates-of
-  rated = c .before .before
-
-  abbrev lent : tie.After-payments
-  lent = rated .before .before
-
+-- what is prepared
+module _ (c : tie.After-rates-of) where
   abbrev gathered : tie.After-common-of
-  gathered = lent .before .before
+  gathered = c .before .before
 
-fund-at-requires : tie.Need-fund-at-requires
-fund-at-requires c κs =
-    let p = prepared (lent c) in
-    let o = ok (gathered c .before .before) in
-    (ready p (rates-ready _ (o .plan-ok) _ (rated c .rates-of .ensures)), (flow-amounts p (rated c .before .flow-of .ensures), p .years))
+allocation-at-requires : tie.Need-allocation-at-requires
+allocation-at-requires c κs =
+    let r = c .before .before in
+    let o = ok (gathered r .before .before) .plan-ok in
+    (prepared-is _ o (gathered r .common-of .ensures) (r .before .payments-of .ensures), rates-ready _ o _ (r .rates-of .ensures))
 
 returns-2 : tie.Need-returns-2
 unfolding fundAnswer
 returns-2 c =
-    let p = c .before in
-    let e = gathered p .before .before in
+    let r = c .before .before .before in
+    let e = gathered r .before .before in
+    let o = ok e .plan-ok in
     fund-answered _ _ (out-accepted noFund (none e)
-    (c .fund-at .ensures .0 ∙ flow-reckoned (prepared (lent p)) (rated p .before .flow-of .ensures) _
-    ∙ ap₂ flowReckoned (shared-is _ (ok e .plan-ok) (gathered p .common-of .ensures) (lent p .before .payments-of .ensures)) (rates-are _ (ok e .plan-ok) _ (rated p .rates-of .ensures))))
+    (c .allocation-at .ensures ∙ ap₂ flowReckoned (shared-is _ o (gathered r .common-of .ensures) (r .before .payments-of .ensures)) (rates-are _ o _ (r .rates-of .ensures))))
 
 pub fund-spec : {M : Type 1} → statement M
 fund-spec =
@@ -75,7 +62,6 @@ fund-spec =
     constant-flow-of-requires
     common-of-requires
     payments-of-requires
-    flow-of-requires
     rates-of-requires
-    fund-at-requires
+    allocation-at-requires
     returns-2)

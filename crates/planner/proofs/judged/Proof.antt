@@ -7,6 +7,9 @@ use native.Mathlib.Omega.{arith}
 use borrow.Author.Needs.{needs}
 use lib.ListN.{getD}
 use lib.IntN.{ℤ}
+use mir.Syntax.{w64}
+use mir.Val.{SFits}
+use Rattle.whole.proofs.Range.{back, ok64}
 use Rattle.reckoning.specs.Arrays.{ratesOf}
 use Rattle.plan.specs.Held.{patternHeld, missingPattern}
 use Rattle.plan.specs.Numbers.{Numbers, ratesMeant, numbers}
@@ -15,7 +18,7 @@ use Rattle.planner.specs.Calls.{sharedOf}
 use Rattle.planner.specs.Arrays.{sharedIn}
 use Rattle.planner.specs.Rows.{rowReckoned}
 use Rattle.planner.specs.declared.OneRow.{OneRow}
-use Rattle.planner.proofs.Held.{rates-array, rates-ready, rates-are, prepared-is, shared-is}
+use Rattle.planner.proofs.Held.{rates-array, rates-ready, rates-are, prepared-is, shared-is, cost-weighable}
 use Rattle.planner.proofs.RowLaws.{Rowed, rows-start, rows-turn, rows-refuse, rows-fit, words-are, rows-are}
 use Rattle.planner.proofs.VerdictLaws.{pattern-refuses, judge-refused, judge-made}
 use Rattle.planner.proofs.judged.Statement.{statement}
@@ -26,10 +29,10 @@ abbrev ratesAt : (years : ℕ) (patterns : List Pattern) (t : ℕ) → List ℤ
 ratesAt years patterns t = ratesMeant years (patternHeld years (getD patterns t missingPattern))
 
 abbrev Inv-loop : tie.InvT-loop
-Inv-loop common payments m years pattern flow words₀ rows₀ t₀ words rows t = Rowed m (λ t. rowReckoned (sharedIn common payments) (ratesOf (ratesAt years pattern t))) words rows t
+Inv-loop common payments m years pattern flow left words₀ rows₀ t₀ words rows t = Rowed m (λ t. rowReckoned (sharedIn common payments) (ratesOf (ratesAt years pattern t))) words rows t
 
 abbrev μ-loop : tie.MeasureT-loop
-μ-loop common payments m years pattern flow words₀ rows₀ t₀ words rows t = m - t
+μ-loop common payments m years pattern flow left words₀ rows₀ t₀ words rows t = m - t
 
 -- what each pattern comes to
 module _ (s : tie.Start Inv-loop μ-loop) where
@@ -45,13 +48,22 @@ module _ (s : tie.Start Inv-loop μ-loop) where
 flow-of-requires : tie.Need-flow-of-requires Inv-loop μ-loop
 flow-of-requires c κs = let p = c .before .pre in prepared-is _ (p .0) (p .1 .0) (p .1 .1)
 
+left-of-requires : tie.Need-left-of-requires Inv-loop μ-loop
+left-of-requires c κs = let p = c .before .before .pre in cost-weighable (prepared-is _ (p .0) (p .1 .0) (p .1 .1))
+
+left-fits : (c : tie.After-left-of Inv-loop μ-loop) → SFits w64 (c .left-of .result)
+left-fits c = ok64 (c .left-of .result) (c .left-of .ok)
+
 loop-holds : tie.Need-loop-holds Inv-loop μ-loop
 loop-holds c = rw (c .no-pattern-row .ensures) rows-start
 
 -- in the loop: the pattern at t
 module _ (c : tie.In-loop Inv-loop μ-loop) where
+  abbrev weighed : tie.After-left-of Inv-loop μ-loop
+  weighed = c .before .before .before
+
   abbrev flowed : tie.After-flow-of Inv-loop μ-loop
-  flowed = c .before .before .before
+  flowed = weighed .before
 
   abbrev start : tie.Start Inv-loop μ-loop
   start = flowed .before .before
@@ -76,7 +88,8 @@ row-at-requires c κs =
     let r = c .before .before in
     let turn = r .before .before in
     let p = start turn .pre in
-    (prepared-is _ (p .0) (p .1 .0) (p .1 .1), (flowed turn .flow-of .ensures, rates-ready _ (p .0) (1 + t turn) (r .rates .ensures ∙ rates-array _ (t turn) (turn .loop-test .taken))))
+    simp (back, left-fits (weighed turn))
+    (prepared-is _ (p .0) (p .1 .0) (p .1 .1), (flowed turn .flow-of .ensures, (weighed turn .left-of .ensures .0, rates-ready _ (p .0) (1 + t turn) (r .rates .ensures ∙ rates-array _ (t turn) (turn .loop-test .taken)))))
 
 -- its row
 module _ (c : tie.After-row-at Inv-loop μ-loop) where
@@ -119,12 +132,12 @@ loop-again c =
     rows-turn (start t .pre .0 .head .patterns-few) (t .loop-test .taken) (t .before .loop .inv) (row-is (c .before .before)) (c .before .if1 .left)
 
 verdict-of-requires : tie.Need-verdict-of-requires Inv-loop μ-loop
-verdict-of-requires c κs = c .before .before .before .before .before .pre .0 .head .patterns-few
+verdict-of-requires c κs = c .before .before .before .before .before .before .pre .0 .head .patterns-few
 
 returns-2 : tie.Need-returns-2 Inv-loop μ-loop
 returns-2 c =
     let e = c .before in
-    let s = e .before .before .before .before .before in
+    let s = e .before .before .before .before .before .before in
     let left = e .loop-test .left in
     let inv = e .before .loop .inv in
     judge-made _ (s .pre .0) (rows-fit (P s) (each-is s) left inv) (words-are (P s) (each-is s) left inv) (rows-are (P s) (each-is s) left inv) (c .verdict-of .ensures)
@@ -136,6 +149,7 @@ judged-spec =
     Inv-loop
     μ-loop
     flow-of-requires
+    left-of-requires
     (λ c κs. search needs)
     loop-holds
     mul-one

@@ -36,6 +36,7 @@ use Rattle.reader.proofs.Filling.{
   fill-pattern,
   fill-allocation,
   fill-opening,
+  fill-cost,
 }
 use Rattle.reader.proofs.plan_in.Statement.{statement}
 use Rattle.reader.proofs.plan_in.Tie as tie
@@ -118,17 +119,17 @@ module _ (c : tie.After-spot-at Inv-loop μ-loop) where
 
 amounts-requires : tie.Need-amounts-requires Inv-loop μ-loop
 unfolding sizeOf nth
-amounts-requires c κs = let r = range (c .before) in let size = sized (c .before) (c .match2 .keys3) in (omega arith, omega arith)
+amounts-requires c κs = let r = range (c .before .before) in let size = sized (c .before .before) (c .before .match2 .keys3) in (omega arith, (omega arith, refl))
 
-mul-t22 : tie.Need-mul-t22 Inv-loop μ-loop
-mul-t22 c = omega (arith, instrument-few (c .before .before) (c .before .match2 .keys3))
+mul-t29 : tie.Need-mul-t29 Inv-loop μ-loop
+mul-t29 c = omega (arith, instrument-few (c .before .before .before .before) (c .before .before .before .match2 .keys3))
 
 element-set-from-plan : tie.Need-element-set-from-plan Inv-loop μ-loop
-element-set-from-plan c = instrument-few (c .before .before) (c .before .match2 .keys3)
+element-set-from-plan c = instrument-few (c .before .before .before .before) (c .before .before .before .match2 .keys3)
 
 amounts-requires-2 : tie.Need-amounts-requires-2 Inv-loop μ-loop
 unfolding sizeOf nth
-amounts-requires-2 c κs = let r = range (c .before) in let size = sized (c .before) (c .match2 .keys4) in (omega arith, omega arith)
+amounts-requires-2 c κs = let r = range (c .before .before) in let size = sized (c .before .before) (c .before .match2 .keys4) in (omega arith, (omega arith, refl))
 
 shares-requires : tie.Need-shares-requires Inv-loop μ-loop
 unfolding sizeOf nth
@@ -155,7 +156,7 @@ shares-requires-2 c κs = let r = range (c .before .before) in let size = sized 
 
 amounts-requires-3 : tie.Need-amounts-requires-3 Inv-loop μ-loop
 unfolding sizeOf nth
-amounts-requires-3 c κs = let r = range (c .before) in let size = sized (c .before) (c .match2 .keys8) in (omega arith, omega arith)
+amounts-requires-3 c κs = let r = range (c .before .before) in let size = sized (c .before .before) (c .before .match2 .keys8) in (omega arith, (omega arith, refl))
 
 slope-in-requires : tie.Need-slope-in-requires Inv-loop μ-loop
 unfolding sizeOf nth
@@ -168,6 +169,10 @@ mul-slope c = omega (arith, pattern-few (c .before .before) (c .before .match2 .
 element-set-from-slope : tie.Need-element-set-from-slope Inv-loop μ-loop
 unfolding roleOf nth
 element-set-from-slope c = pattern-few (c .before .before) (c .before .match2 .keys9) refl
+
+amounts-requires-4 : tie.Need-amounts-requires-4 Inv-loop μ-loop
+unfolding sizeOf nth
+amounts-requires-4 c κs = let r = range (c .before .before) in let size = sized (c .before .before) (c .before .match2 .keys10) in (omega arith, (omega arith, refl))
 
 returns : tie.Need-returns Inv-loop μ-loop
 returns c =
@@ -191,17 +196,18 @@ put c =
     let given = handed b in
     ((λ u. absurd (none b (u .0 .keys1) refl))
     ∥ (λ u. u .1 ∙ fill-head _ _ p given (turned b (u .0 .keys2)) refl refl)
-    ∥ (λ u. u .2 ∙ fill-instrument _ _ p given (turned b (u .0 .keys3)) refl refl (u .1 .ensures) (instrument-few b (u .0 .keys3)))
-    ∥ (λ u. u .2 ∙ fill-outflows _ _ p given (turned b (u .0 .keys4)) refl (u .1 .ensures))
+    ∥ (λ u. u .4 ∙ fill-instrument _ _ p given (turned b (u .0 .keys3)) refl refl (u .2 .ensures) (instrument-few b (u .0 .keys3)))
+    ∥ (λ u. u .4 ∙ fill-outflows _ _ p given (turned b (u .0 .keys4)) refl (u .2 .ensures))
     ∥ (λ u. u .4 ∙ fill-rollover _ _ p given (turned b (u .0 .keys5)) refl (u .2 .ensures))
     ∥ (λ u.
     u .3 ∙ fill-pattern _ _ p given (turned b (u .0 .keys6)) refl refl (u .2 .ensures ∙ list-row _ _ _ (is b (u .0 .keys6)))
     (pattern-few b (u .0 .keys6) refl))
     ∥ (λ u. u .4 ∙ fill-allocation _ _ p given (turned b (u .0 .keys7)) refl (u .2 .ensures))
-    ∥ (λ u. u .2 ∙ fill-opening _ _ p given (turned b (u .0 .keys8)) refl (u .1 .ensures))
+    ∥ (λ u. u .4 ∙ fill-opening _ _ p given (turned b (u .0 .keys8)) refl (u .2 .ensures))
     ∥ (λ u.
     u .2 ∙ fill-pattern _ _ p given (turned b (u .0 .keys9)) refl refl (u .1 .ensures ∙ slope-row _ _ _ (is b (u .0 .keys9)))
     (pattern-few b (u .0 .keys9) refl))
+    ∥ (λ u. u .4 ∙ fill-cost _ _ p given (turned b (u .0 .keys10)) refl (u .2 .ensures))
     ∥ (λ u. absurd (none b refl (nth-outside 0 roles _ (λ l. past (suc (length roles)) (u .0 .rest))))))
     (c .match2 .came)
 
@@ -228,9 +234,11 @@ plan-in-spec =
     (λ c κs. search needs) (λ c. search needs)
     body-at-requires
     (λ c κs. search needs)
+    (λ c. search needs)
     amounts-requires
-    mul-t22
+    mul-t29
     element-set-from-plan
+    (λ c. search needs)
     amounts-requires-2
     (λ c. search needs)
     shares-requires
@@ -240,10 +248,13 @@ plan-in-spec =
     element-set-from-list
     (λ c. search needs)
     shares-requires-2
+    (λ c. search needs)
     amounts-requires-3
     slope-in-requires
     mul-slope
     element-set-from-slope
+    (λ c. search needs)
+    amounts-requires-4
     (λ c. search needs)
     returns
     (λ c. search needs) (λ c. omega arith)

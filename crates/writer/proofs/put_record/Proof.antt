@@ -16,8 +16,8 @@ use Rattle.planfile.specs.Rows.{headRec}
 use Rattle.planfile.specs.Records.{recordOf}
 use Rattle.planfile.proofs.Kind.{past-from}
 use Rattle.planfile.proofs.Groups.{role-some}
-use Rattle.writer.proofs.Role.{role-few}
-use Rattle.writer.proofs.Row.{opening}
+use Rattle.writer.proofs.Role.{role-few, no-slope}
+use Rattle.writer.proofs.Row.{opening, cost}
 use Rattle.writer.proofs.put_record.Statement.{statement}
 use Rattle.writer.proofs.put_record.Tie as tie
 
@@ -146,14 +146,40 @@ returns-5 c =
 same-length-5 : tie.Need-same-length-5
 same-length-5 c = wrote-length (returns-5 c)
 
--- ---- no other
+-- ---- 9: the cost at the horizon
+slice-aggregate-put-amounts-record-3 : tie.Need-slice-aggregate-put-amounts-record-3
+slice-aggregate-put-amounts-record-3 c = search needs
+
+put-amounts-record-requires-3 : tie.Need-put-amounts-record-requires-3
+put-amounts-record-requires-3 c κs =
+    let m = c .before .before .before in
+    let s = m .before .before in
+    let few = s .pre .0 .instruments-few in
+    let key = m .match .keys6 in
+    (omega (arith, few), (omega (arith, few, slice-aggregate-put-amounts-record-3 c), room s key (cost (plan s) (counted s key) refl)))
+
 returns-6 : tie.Need-returns-6
 returns-6 c =
+    let m = c .before .before .before .before .before .before in
+    let s = m .before .before in
+    let key = m .match .keys6 in
+    wrote s key (cost (plan s) (counted s key) refl) (c .before .before .put-amounts-record3 .ensures)
+
+same-length-6 : tie.Need-same-length-6
+same-length-6 c = wrote-length (returns-6 c)
+
+-- ---- no other
+returns-7 : tie.Need-returns-7
+returns-7 c =
     let s = c .before .before in
     let l = s .pre .1 .0 in
     let no = s .pre .1 .1 .0 in
     let r = c .match .rest in
-    let past = past-from 1 7 (role-some _ _ _ l) ((((((r .0 .0 .0 .0, no .instrument), r .0 .0 .0 .1), r .0 .0 .1), no .pattern), r .0 .1), r .1) in
+    let no-8 = no-slope (held (plan s)) _ _ l in
+    let past =
+    past-from 1 9 (role-some _ _ _ l)
+    ((((((((r .0 .0 .0 .0 .0, no .instrument), r .0 .0 .0 .0 .1), r .0 .0 .0 .1), no .pattern), r .0 .0 .1), r .0 .1), no-8), r .1)
+    in
     absurd (omega (arith, role-few (held (plan s)) _ _ l, past))
 
 pub put-record-spec : {M : Type 1} → statement M
@@ -170,6 +196,8 @@ put-record-spec =
     put-shares-record-requires-2
     slice-aggregate-put-amounts-record-2
     put-amounts-record-requires-2
+    slice-aggregate-put-amounts-record-3
+    put-amounts-record-requires-3
     same-length
     returns
     same-length-2
@@ -180,4 +208,6 @@ put-record-spec =
     returns-4
     same-length-5
     returns-5
-    returns-6)
+    same-length-6
+    returns-6
+    returns-7)
