@@ -1,6 +1,6 @@
-/* The yearly reckoning of document 01, with the opening and slopes, and the cash account and the search for an allocation of document 02,
- * in plain C: the same checks in the same order, the same window of q terms, every flow of every pattern reckoned once, the same
- * allocations tried in the same order. Nothing is copied that C need not copy; the plan is passed by pointer. */
+/* The yearly reckoning of document 01, with the opening, slopes and the cost left at the horizon, and the cash account and the search for
+ * an allocation of document 02, in plain C: the same checks in the same order, the same window of q terms, every flow of every pattern
+ * reckoned once, the same allocations tried in the same order. Nothing is copied that C need not copy; the plan is passed by pointer. */
 #include "verdict.h"
 
 #include <stdbool.h>
@@ -12,7 +12,8 @@
 
 struct plan {
     size_t years, instruments, terms, patterns;
-    int64_t payments[16][30], outflows[30], opening[30]; /* the opening is 0 where the file has none */
+    int64_t payments[16][30], outflows[30], opening[30], cost[16]; /* the opening and the cost are 0 where the file has none */
+    int64_t costed;                                                /* 1 where the file has a cost, else 0 */
     uint32_t rollover[30], allocation[16];
     int64_t rates[64][30]; /* as listed, or as a slope means them */
     uint8_t until[64];     /* the T of a slope; 1 where the rates are listed */
@@ -45,11 +46,13 @@ static bool from(size_t low, size_t high, size_t x)
     return low <= x && x <= high;
 }
 
-/* The kind of record t, 5 for a slope too; `opened` is 1 where there is an opening, else 0. */
-static size_t kind_of(size_t n, size_t m, size_t opened, size_t t)
+/* The kind of record t, 5 for a slope too; `opened` is 1 where there is an opening, else 0, and so is `costed` for a cost. */
+static size_t kind_of(size_t n, size_t m, size_t opened, size_t costed, size_t t)
 {
-    size_t last = n + 1 + opened; /* of the records with amounts */
-    return t == 0 ? 1 : t <= n ? 2 : t == n + 1 ? 3 : t == last ? 7 : t == last + 1 ? 4 : t < last + m + 2 ? 5 : 6;
+    size_t last = n + 1 + opened + costed; /* of the records with amounts */
+    if (t > last)
+        return t == last + 1 ? 4 : t < last + m + 2 ? 5 : 6;
+    return t == 0 ? 1 : t <= n ? 2 : t == n + 1 ? 3 : t == n + 1 + opened ? 7 : 9;
 }
 
 static void amounts(int64_t *out, const uint8_t *body, size_t n)
@@ -91,22 +94,24 @@ static uint8_t read_plan(const uint8_t *file, size_t length, struct plan *plan)
     size_t N = file[4], n = file[5], q = file[6], m = file[7];
     if (!from(1, 30, N) || !from(1, 16, n) || !from(1, 30, q) || !from(1, 64, m))
         return 3;
-    size_t count = n + m + 4, opened = 0, at = 0;
-    for (size_t t = 0; t < count + opened; t++) {
+    size_t count = n + m + 4, opened = 0, costed = 0, at = 0;
+    for (size_t t = 0; t < count + opened + costed; t++) {
         if (at == length)
             return 4;
-        if (t == n + 2 && u16_at(file + at + 2) == 7)
-            opened = 1;
         size_t kind = u16_at(file + at + 2);
-        if ((kind == 8 ? 5 : kind) != kind_of(n, m, opened, t))
+        if (t == n + 2 && kind == 7)
+            opened = 1;
+        if (t == n + 2 + opened && kind == 9)
+            costed = 1;
+        if ((kind == 8 ? 5 : kind) != kind_of(n, m, opened, costed, t))
             return 4;
         at += 4 + u16_at(file + at);
     }
     if (at != length)
         return 4;
-    const size_t sizes[] = {0, 4, 8 * N, 8 * N, 4 * q, 4 * (N - 1), 4 * n, 8 * N, 9};
+    const size_t sizes[] = {0, 4, 8 * N, 8 * N, 4 * q, 4 * (N - 1), 4 * n, 8 * N, 9, 8 * n};
     at = 0;
-    for (size_t t = 0; t < count + opened; t++) {
+    for (size_t t = 0; t < count + opened + costed; t++) {
         if (u16_at(file + at) != sizes[u16_at(file + at + 2)])
             return 5;
         at += 4 + u16_at(file + at);
@@ -124,6 +129,12 @@ static uint8_t read_plan(const uint8_t *file, size_t length, struct plan *plan)
     if (opened) {
         amounts(plan->opening, body, N);
         body += 4 + 8 * N;
+    }
+    plan->costed = (int64_t)costed;
+    memset(plan->cost, 0, sizeof plan->cost);
+    if (costed) {
+        amounts(plan->cost, body, n);
+        body += 4 + 8 * n;
     }
     shares(plan->rollover, body, q);
     body += 4 + 4 * q;
@@ -163,6 +174,8 @@ static uint8_t check_plan(const struct plan *plan)
         if (!within(plan->payments[j], plan->years, 0, MOST))
             return 6;
     if (!within(plan->outflows, plan->years, -MOST, MOST) || !within(plan->opening, plan->years, 0, MOST))
+        return 6;
+    if (!within(plan->cost, plan->instruments, 0, MOST))
         return 6;
     if (sum(plan->rollover, plan->terms) != MILLION)
         return 7;
@@ -209,6 +222,15 @@ static int64_t flow_at(const struct plan *plan, size_t k)
     return down(s) + net_at(plan, k);
 }
 
+/* What the allocation has left at the horizon, at cost. */
+static int64_t left_of(const struct plan *plan)
+{
+    int64_t s = 0;
+    for (size_t j = 0; j < plan->instruments; j++)
+        s += plan->cost[j] * (int64_t)plan->allocation[j];
+    return down(s);
+}
+
 static uint8_t word_of(int64_t amount, int64_t bound)
 {
     return amount >= 0 ? 1 : amount + bound <= 0 ? 2 : 3;
@@ -216,8 +238,9 @@ static uint8_t word_of(int64_t amount, int64_t bound)
 
 /* ---- the verdict */
 
-/* The fund of a flow over n years; check 11. */
-static uint8_t fund(const int64_t *flow, const int64_t *r, const int64_t *w, const int64_t *i, size_t n, size_t q, int64_t *out)
+/* The fund of a flow over n years, with what is left at the horizon inside; check 11. */
+static uint8_t fund(const int64_t *flow, const int64_t *r, const int64_t *w, const int64_t *i, size_t n, size_t q, int64_t left,
+                    int64_t *out)
 {
     int64_t cells[30];
     for (size_t j = 0; j < n; j++) {
@@ -230,7 +253,7 @@ static uint8_t fund(const int64_t *flow, const int64_t *r, const int64_t *w, con
             return 11;
         cells[j] = s;
     }
-    int64_t s = 0;
+    int64_t s = left;
     for (size_t k = n < q ? 0 : n - q; k < n; k++)
         s += share(cells[k], w[n - k - 1]);
     if (s > LIMIT || s < -LIMIT)
@@ -239,7 +262,8 @@ static uint8_t fund(const int64_t *flow, const int64_t *r, const int64_t *w, con
     return 0;
 }
 
-static int64_t bound(const int64_t *i, size_t n)
+/* B, with one more where the plan has a cost. */
+static int64_t bound(const int64_t *i, size_t n, int64_t costed)
 {
     int64_t h = 0, g = 1;
     for (size_t l = 0; l + 1 < n; l++)
@@ -247,22 +271,22 @@ static int64_t bound(const int64_t *i, size_t n)
             h = i[l];
     for (size_t k = 3; k < n + 2; k++)
         g += down(g * h + 999999) + (int64_t)(3 * k - 5);
-    return g + (int64_t)n;
+    return g + (int64_t)n + costed;
 }
 
-/* What one pattern comes to; `net` is the opening less the outflows. */
-static uint8_t reckon(const struct plan *plan, const int64_t *flow, const int64_t *net, const int64_t *r, const int64_t *w,
+/* What one pattern comes to; `left` is what the allocation has left at the horizon, `net` the opening less the outflows. */
+static uint8_t reckon(const struct plan *plan, const int64_t *flow, int64_t left, const int64_t *net, const int64_t *r, const int64_t *w,
                       const int64_t *i, struct row *row)
 {
     size_t N = plan->years, n = plan->instruments, q = plan->terms;
-    if (fund(flow, r, w, i, N, q, &row->fund))
+    if (fund(flow, r, w, i, N, q, left, &row->fund))
         return 11;
     for (size_t j = 0; j < n; j++)
-        if (fund(plan->payments[j], r, w, i, N, q, &row->coefficients[j]))
+        if (fund(plan->payments[j], r, w, i, N, q, plan->cost[j], &row->coefficients[j]))
             return 11;
-    if (fund(net, r, w, i, N, q, &row->constant))
+    if (fund(net, r, w, i, N, q, 0, &row->constant))
         return 11;
-    row->bound = bound(i, N);
+    row->bound = bound(i, N, plan->costed);
     row->word = word_of(row->fund, row->bound);
     return 0;
 }
@@ -298,14 +322,14 @@ uint8_t c_verdict(const uint8_t *file, size_t length, uint8_t words[static 64], 
     if (no)
         return refused(no, words, shorts, word);
     size_t N = plan.years, q = plan.terms, m = plan.patterns;
-    int64_t r[30] = {0}, w[30] = {0}, flow[30], net[30];
+    int64_t r[30] = {0}, w[30] = {0}, flow[30], net[30], left = left_of(&plan);
     terms(plan.rollover, q, r, w);
     for (size_t k = 0; k < N; k++) {
         net[k] = net_at(&plan, k);
         flow[k] = flow_at(&plan, k);
     }
     for (size_t t = 0; t < m; t++)
-        if (reckon(&plan, flow, net, r, w, plan.rates[t], &rows[t]))
+        if (reckon(&plan, flow, left, net, r, w, plan.rates[t], &rows[t]))
             return refused(11, words, shorts, word);
     bool solvent = true;
     memset(words, 0, 64);
@@ -320,7 +344,7 @@ uint8_t c_verdict(const uint8_t *file, size_t length, uint8_t words[static 64], 
     return 0;
 }
 
-/* ---- the cash account */
+/* ---- the cash account, which does not count the cost */
 
 /* Checks 8 and 14 of two lists of n rates. */
 static uint8_t check_lists(const int32_t *lending, const int32_t *borrowing, size_t n)
@@ -416,11 +440,11 @@ static uint8_t draw(const struct search *s, const int64_t *net, const int64_t *i
     for (size_t j = 0; j < CHOICES; j++)
         line->coefficients[j] = 0;
     for (size_t j = 0; j < n; j++)
-        if (fund(s->plan.payments[j], s->r, s->w, i, N, q, &line->coefficients[j]))
+        if (fund(s->plan.payments[j], s->r, s->w, i, N, q, s->plan.cost[j], &line->coefficients[j]))
             return 11;
-    if (fund(net, s->r, s->w, i, N, q, &constant))
+    if (fund(net, s->r, s->w, i, N, q, 0, &constant))
         return 11;
-    line->constant = MILLION * (constant + 2 * bound(i, N));
+    line->constant = MILLION * (constant + 2 * bound(i, N, s->plan.costed));
     return 0;
 }
 
@@ -452,11 +476,11 @@ static bool ruled_out(const struct search *s)
 static bool is_solvent(const struct search *s)
 {
     const struct plan *plan = &s->plan;
-    int64_t flow[30], z;
+    int64_t flow[30], left = left_of(plan), z;
     for (size_t k = 0; k < plan->years; k++)
         flow[k] = flow_at(plan, k);
     for (size_t t = 0; t < plan->patterns; t++)
-        if (fund(flow, s->r, s->w, plan->rates[t], plan->years, plan->terms, &z) || z < 0)
+        if (fund(flow, s->r, s->w, plan->rates[t], plan->years, plan->terms, left, &z) || z < 0)
             return false;
     return true;
 }
