@@ -12,9 +12,9 @@
  * borrowing rates those of its last if it has two such, raised to the lending rate where they are below it. What is still missing is
  * drawn, and so is what is wrong: one file in eight has lists of other lengths (0, N - 1, N, N + 255, 30, 31, or any up to 1,024), one
  * in eight a borrowing rate below the lending rate, one in eight a rate outside the range, each whatever the others are; two in three
- * have nothing wrong. The generator begins with a hash of the records other than the payments, the outflows and the opening: a change
- * of an amount leaves the lists as they are. The number of parts is drawn next: in one file in eight one that is refused, else one that
- * leaves the search some hundreds of allocations at most, and in one of sixteen of these some thousands; fewer where the plan is large.
+ * have nothing wrong. The generator begins with a hash of the records other than the payments, the outflows, the opening and the cost: a
+ * change of an amount leaves the lists as they are. The number of parts is drawn next: in one file in eight one that is refused, else one
+ * that leaves the search some hundreds of allocations at most, and in one of sixteen of these some thousands; fewer where the plan is large.
  *
  * Built for libFuzzer by fuzz/run, and with REPLAY as a program that takes files, or standard input, by fuzz/replay.
  *
@@ -54,7 +54,7 @@ static int record(const uint8_t *data, size_t size, size_t at, size_t *length)
 
 static int has_amounts(unsigned kind)
 {
-    return kind == 2 || kind == 3 || kind == 7;
+    return kind == 2 || kind == 3 || kind == 7 || kind == 9;
 }
 
 /* ---- the form of a listing */
