@@ -11,7 +11,8 @@ use lib.ListN.{length}
 use Rattle.plan.specs.Held.{noPlan, planFrom}
 use Rattle.plan.specs.Numbers.{Numbers, numbers}
 use Rattle.plan.specs.Refusal.{check, firstOf, answer, refusalOf}
-use Rattle.planner.specs.Calls.{noFund, noForm, fundAnswer, formAnswer}
+use Rattle.patterns.specs.Pattern.{noForm}
+use Rattle.planner.specs.Calls.{noFund, fundAnswer, formAnswer}
 use Rattle.planner.specs.Verdict.{noVerdict, verdictAnswer}
 use Rattle.planner.specs.Demand3.{FundNear, FormNear, VerdictTrue}
 use Rattle.planner.proofs.Answers.{out-refused, out-accepted}

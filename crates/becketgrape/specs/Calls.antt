@@ -8,10 +8,11 @@ use Rattle.reckoning.specs.declared.GammaTable.{GammaTable}
 use lib.IntN.{ℤ}
 use Rattle.plan.specs.Numbers.{Numbers}
 use Rattle.plan.specs.Refusal.{answer}
-use Rattle.planner.specs.Calls.{noFund, noBound, noForm, noGammas, fundAnswer, boundAnswer, formAnswer, gammasAnswer}
+use Rattle.patterns.specs.Pattern.{noForm}
+use Rattle.patterns.specs.declared.FormAnswer.{FormAnswer}
+use Rattle.planner.specs.Calls.{noFund, noBound, noGammas, fundAnswer, boundAnswer, formAnswer, gammasAnswer}
 use Rattle.planner.specs.Verdict.{noVerdict, verdictAnswer}
 use Rattle.planner.specs.declared.BoundAnswer.{BoundAnswer}
-use Rattle.planner.specs.declared.FormAnswer.{FormAnswer}
 use Rattle.planner.specs.declared.VerdictAnswer.{VerdictAnswer}
 use Rattle.cash.specs.declared.CashAnswer.{CashAnswer}
 use Rattle.cash.specs.Call.{noCash, cashAnswer}

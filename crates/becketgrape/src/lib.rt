@@ -1,8 +1,8 @@
 // The planner for programs in C: every call over a plan file's bytes, its answer in lent buffers. include/planner.h declares them.
 use cash::CashAnswer;
 use finder::FindAnswer;
+use patterns::FormAnswer;
 use planner::BoundAnswer;
-use planner::FormAnswer;
 use planner::VerdictAnswer;
 use reckoning::GammaTable;
 use reckoning::Reckoned;

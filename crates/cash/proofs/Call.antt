@@ -18,7 +18,7 @@ use Rattle.plan.specs.Numbers.{Numbers, numbers}
 use Rattle.plan.specs.Refusal.{headRefusal, Accepted}
 use Rattle.plan.specs.declared.Plan.{Plan}
 use Rattle.plan.proofs.Checks.{check-true, first-none, first-next, not-refused, answer-accepted, head-passed, accepted, lists-pass, plan-passes}
-use Rattle.planner.specs.Calls.{sharedOf, flowOf, exactFlowOf}
+use Rattle.patterns.specs.Pattern.{sharedOf, flowOf, exactFlowOf}
 use Rattle.planner.specs.Verdict.{wordOf}
 use Rattle.planner.proofs.VerdictLaws.{word-solvent, word-short}
 use Rattle.cash.specs.declared.CashAnswer.{CashAnswer}

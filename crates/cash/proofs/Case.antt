@@ -14,7 +14,7 @@ use Rattle.reckoning.specs.Arrays.{ratesOf}
 use Rattle.plan.specs.Held.{instrumentsHeld, outflowsHeld, rolloverHeld, patternsHeld, allocationHeld, openingHeld, costHeld}
 use Rattle.plan.specs.Refusal.{headOk, paymentsOk, paymentsFit, outflowsOk, openingOk, costOk, amountsOk, rolloverOk, untilsOk, ratesOk, ratesFit, allocationOk, headRefusal, amountsRefusal, ratesRefusal, allocationRefusal, refusalWith}
 use Rattle.plan.specs.Case.{nearL, planL, renewed, longer}
-use Rattle.planner.specs.Calls.{flowOf}
+use Rattle.patterns.specs.Pattern.{flowOf}
 use Rattle.planner.specs.Verdict.{wordOf}
 use Rattle.cash.specs.Account.{rateFor, next, exactNext, account, X, h, g}
 use Rattle.cash.specs.Call.{lengthsRefusal, listOk, inOrder, listsRefusal, accountsFit, cashReckoned, shapeRefusal, numbersRefusal, cashAt, cashAnswer}

@@ -25,7 +25,7 @@ use Rattle.plan.specs.Refusal.{
   refusalWith,
 }
 use Rattle.plan.proofs.Checks.{cost-passes}
-use Rattle.planner.specs.Calls.{flowOf}
+use Rattle.patterns.specs.Pattern.{flowOf}
 use Rattle.cash.specs.Call.{shapeRefusal, numbersRefusal, cashAt, cashAnswer}
 use Rattle.cash.specs.Uncosted.{uncosted, CashUncosted}
 

@@ -11,7 +11,7 @@ use Rattle.whole.specs.Test.{pick, both, all, isBetween, isWithin}
 use Rattle.reckoning.specs.Arrays.{ratesOf}
 use Rattle.plan.specs.Numbers.{Numbers}
 use Rattle.plan.specs.Refusal.{check, firstOf, answer, top, headRefusal, refusalWith}
-use Rattle.planner.specs.Calls.{sharedOf, flowOf}
+use Rattle.patterns.specs.Pattern.{sharedOf, flowOf}
 use Rattle.planner.specs.Verdict.{wordOf}
 use Rattle.cash.specs.declared.CashAnswer.{CashAnswer}
 use Rattle.cash.specs.Account.{account, h, g}

@@ -7,7 +7,7 @@ use lib.Signed.{_≤ℤ_, _<ℤ_}
 use Rattle.reckoning.specs.Theorem.{Floors}
 use Rattle.reckoning.specs.Arrays.{ratesOf}
 use Rattle.plan.specs.Numbers.{Numbers}
-use Rattle.planner.specs.Calls.{sharedOf, exactFlowOf}
+use Rattle.patterns.specs.Pattern.{sharedOf, exactFlowOf}
 use Rattle.planner.specs.Verdict.{solvent, short}
 use Rattle.cash.specs.declared.CashAnswer.{CashAnswer}
 use Rattle.cash.specs.Account.{account, X, h, g}

@@ -237,7 +237,7 @@ fn cash_at(plan: Plan, lending: [i64; 30], borrowing: [i64; 30]) -> CashAnswer
     if no != 0 {
         return no_cash(no);
     }
-    let flow = planner::allocation_flow(plan);
+    let flow = patterns::allocation_flow(plan);
     reckon(&flow, &lending, &borrowing, plan.years)
 }
 

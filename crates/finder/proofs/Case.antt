@@ -16,7 +16,7 @@ use Rattle.reckoning.specs.Arrays.{alphasFit, fundFits}
 use Rattle.plan.specs.Held.{instrumentsHeld, outflowsHeld, rolloverHeld, patternsHeld, allocationHeld, openingHeld, costHeld}
 use Rattle.plan.specs.Refusal.{headOk, paymentsOk, paymentsFit, outflowsOk, openingOk, costOk, amountsOk, rolloverOk, untilsOk, ratesOk, ratesFit, allocationOk, headRefusal, amountsRefusal, ratesRefusal, allocationRefusal, refusalOf}
 use Rattle.plan.specs.Case.{nearL, planL, renewed, oneYear, longer}
-use Rattle.planner.specs.Calls.{flowOf, exactLeftOf, leftOf, fundAt, boundAt, flowFits, coefficientsFit, constantFits}
+use Rattle.patterns.specs.Pattern.{flowOf, exactLeftOf, leftOf, fundAt, boundAt, flowFits, coefficientsFit, constantFits}
 use Rattle.planner.specs.Verdict.{wordOf, bitsOf, rowFits, wordAt, patternWord, verdictRefusal, shortBits, planWord, verdictAnswer}
 use Rattle.finder.specs.Grid.{downFrom, splits, allocationOf, allocations}
 use Rattle.finder.specs.Find.{solventWith, firstThat, isAmong, partsTaken, findRefusal, findAnswer}

@@ -11,9 +11,9 @@ use Rattle.whole.specs.Test.{both}
 use Rattle.whole.proofs.Test.{both-second, both-not, picked-yes, picked-no, picked-is, lt-true, lt-false, le-leZ, lt-leZ}
 use Rattle.reckoning.specs.declared.Reckoned.{Reckoned}
 use Rattle.plan.specs.declared.Shape.{Shape}
-use Rattle.planner.specs.Calls.{Shared, boundAt, coefficientsFit, constantFits, constantAt, flowFits, fundAt, flowOf, leftOf, flowReckoned, formReckoned}
-use Rattle.planner.specs.declared.FormAnswer.{FormAnswer}
-use Rattle.planner.proofs.Answers.{reckoned-refused, reckoned-fits, reckoned-is}
+use Rattle.patterns.specs.Pattern.{Shared, boundAt, coefficientsFit, constantFits, constantAt, flowFits, fundAt, flowOf, leftOf, flowReckoned, formReckoned}
+use Rattle.patterns.specs.declared.FormAnswer.{FormAnswer}
+use Rattle.patterns.proofs.Reckoned.{reckoned-refused, reckoned-fits, reckoned-is}
 use Rattle.finder.specs.Lines.{lineFrom, overAll, lineOf, fundPasses, belowNone, looked, passes}
 use Rattle.finder.proofs.Lines.{constant-within}
 

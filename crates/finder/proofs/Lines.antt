@@ -28,7 +28,8 @@ use Rattle.plan.specs.Numbers.{numbers}
 use Rattle.plan.specs.Refusal.{Accepted}
 use Rattle.plan.specs.declared.Plan.{Plan}
 use Rattle.plan.proofs.Held.{allocation-is}
-use Rattle.planner.specs.Calls.{Shared, sharedOf, fundAt, boundAt, coefficientAt, constantAt, valueAt, flowFits, coefficientsFit, constantFits, coefficientsAt, exactFund, boundOf}
+use Rattle.patterns.specs.Pattern.{Shared, sharedOf, fundAt, boundAt, coefficientAt, constantAt, valueAt, flowFits, coefficientsFit, constantFits, coefficientsAt}
+use Rattle.planner.specs.Calls.{exactFund, boundOf}
 use Rattle.planner.specs.Verdict.{rowFits, fundOf}
 use Rattle.planner.proofs.Demand3.{pattern-form-close, fund-below}
 use Rattle.finder.specs.Lines.{lineFrom, overAll, lineOf, fundPasses, heightOver, Line}

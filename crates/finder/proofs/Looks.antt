@@ -18,11 +18,11 @@ use Rattle.plan.specs.Held.{shapeOf, instrumentsHeld, outflowsHeld, rolloverHel
 use Rattle.plan.specs.Numbers.{numbers}
 use Rattle.plan.specs.Refusal.{Accepted}
 use Rattle.plan.specs.declared.Plan.{Plan}
-use Rattle.planner.specs.Calls.{Shared, sharedOf, fundAt, boundAt, coefficientAt, constantAt, coefficientsFit, constantFits, coefficientsAt}
-use Rattle.planner.specs.Arrays.{rolloverArray, ratesArray, constantArray, paymentsRow, paymentsRows, commonOf, sharedIn, Prepared}
+use Rattle.patterns.specs.Pattern.{Shared, sharedOf, fundAt, boundAt, coefficientAt, constantAt, coefficientsFit, constantFits, coefficientsAt}
+use Rattle.patterns.specs.Arrays.{rolloverArray, ratesArray, constantArray, paymentsRow, paymentsRows, commonOf, sharedIn, Prepared}
+use Rattle.patterns.specs.declared.Common.{Common}
+use Rattle.patterns.proofs.Held.{prepared-is, shared-is, shares-are, rates-ready, rates-are}
 use Rattle.planner.specs.Verdict.{rowFits}
-use Rattle.planner.specs.declared.Common.{Common}
-use Rattle.planner.proofs.Held.{prepared-is, shared-is, shares-are, rates-ready, rates-are}
 use Rattle.finder.specs.Find.{allocated, solventWith}
 use Rattle.finder.specs.Lines.{lineOf, fundPasses, linesOf, heightOver, belowNone, wideOf, commonWith, looked, passes, Searchable}
 use Rattle.finder.proofs.Order.{wide-at}

@@ -20,7 +20,8 @@ use Rattle.plan.specs.Numbers.{Numbers, numbers}
 use Rattle.plan.specs.Refusal.{check, answer, Accepted}
 use Rattle.plan.specs.declared.Plan.{Plan}
 use Rattle.plan.proofs.Checks.{accepted-none}
-use Rattle.planner.specs.Calls.{sharedOf, fundAt, exactFund}
+use Rattle.patterns.specs.Pattern.{sharedOf, fundAt}
+use Rattle.planner.specs.Calls.{exactFund}
 use Rattle.planner.specs.Verdict.{solvent, short, close, wordOf, bitsOf, planWordOf, noVerdict, rowFits, wordAt, patternWord, verdictRefusal, shortBits, planWord, verdictAnswer}
 use Rattle.planner.specs.Demand3.{VerdictTrue}
 use Rattle.planner.specs.declared.VerdictAnswer.{VerdictAnswer}

@@ -13,9 +13,9 @@ use Rattle.whole.specs.Table.{table}
 use Rattle.whole.specs.Test.{pick, both, all}
 use Rattle.reckoning.specs.Arrays.{sharesOf, ratesOf, weightsOf, Rates}
 use Rattle.plan.specs.declared.Shape.{Shape}
-use Rattle.planner.specs.Calls.{Shared, fundAt, boundAt, constantAt, coefficientsAt, flowFits, coefficientsFit, constantFits}
-use Rattle.planner.specs.Arrays.{sharedIn, Prepared}
-use Rattle.planner.specs.declared.Common.{Common}
+use Rattle.patterns.specs.Pattern.{Shared, fundAt, boundAt, constantAt, coefficientsAt, flowFits, coefficientsFit, constantFits}
+use Rattle.patterns.specs.Arrays.{sharedIn, Prepared}
+use Rattle.patterns.specs.declared.Common.{Common}
 
 -- a line by its five numbers
 abbrev pub lineFrom : (k : List ℤ) (constant : ℤ) → List ℤ

@@ -1,7 +1,7 @@
 // The search for an allocation whose verdict is solvent, instrument by instrument over the parts still to be placed.
+use patterns::Common;
 use plan::Plan;
 use plan::Shape;
-use planner::Common;
 ghost use mathlib.Core.Path.{_≡_};
 ghost use mathlib.Core.Bool.{true};
 ghost use mathlib.Core.List.{[]};
@@ -16,7 +16,7 @@ ghost use Rattle.reckoning.specs.Arrays.{ratesOf, Rates};
 ghost use Rattle.plan.specs.Held.{held};
 ghost use Rattle.plan.specs.Numbers.{numbers};
 ghost use Rattle.plan.specs.Refusal.{Accepted};
-ghost use Rattle.planner.specs.Arrays.{ratesArray, sharedIn, Prepared};
+ghost use Rattle.patterns.specs.Arrays.{ratesArray, sharedIn, Prepared};
 ghost use Rattle.finder.specs.Grid.{allocations};
 ghost use Rattle.finder.specs.Find.{notFound, solventWith, firstThat, isAmong, partsTaken, findAnswer};
 ghost use Rattle.finder.specs.Claims.{FindTrue};
@@ -57,14 +57,14 @@ fn line_of(common: Common, payments: &[[i64; 30]; 16], i: &[i64; 30]) -> [i64; 5
     requires { ⌜ Rates (now i) ⌝ }
     ensures { λ s. ⌜ s ≡ lineOf (sharedIn common (now (payments .entry))) (ratesOf (now (i .entry))) ⌝ }
 {
-    let f = planner::form_at(common, payments, i);
+    let f = patterns::form_at(common, payments, i);
     let no = f.refusal;
     if no != 0 {
         return [0, 0, 0, 0, -1];
     }
     let years = common.years;
     let costed = common.costed;
-    let bound = planner::bound_at(i, years, costed);
+    let bound = patterns::bound_at(i, years, costed);
     let q = f.constant;
     let k = f.coefficients;
     [k[0], k[1], k[2], k[3], 1_000_000 * (q + 2 * bound)]
@@ -128,10 +128,10 @@ fn funds_pass(common: Common, payments: &[[i64; 30]; 16], rates: &[[i64; 30]; 64
     requires { ⌜ ((t : ℕ) → t < m → Rates (getD (now rates) t [])) ⌝ }
     ensures { λ b. ⌜ b ≡ all m (λ t. fundPasses (sharedIn common (now (payments .entry))) (ratesOf (getD (now (rates .entry)) t []))) ⌝ }
 {
-    let flow = planner::flow_of(common, payments);
-    let left = planner::left_of(common);
+    let flow = patterns::flow_of(common, payments);
+    let left = patterns::left_of(common);
     for t in 0..m {
-        let c = planner::fund_at(common, &flow, left, &rates[t]);
+        let c = patterns::fund_at(common, &flow, left, &rates[t]);
         let no = c.refusal;
         if no != 0 {
             return false;
@@ -308,9 +308,9 @@ fn search(plan: Plan, parts: u32) -> FindAnswer
     ensures { λ s. ⌜ s ≡ firstThat (solventWith (numbers plan)) (allocations (plan .instruments) parts) ⌝ }
 {
     let shape = plan::shape_of(plan);
-    let constant = planner::constant_flow_of(plan);
-    let common = planner::common_of(plan, constant);
-    let payments = planner::payments_of(plan);
+    let constant = patterns::constant_flow_of(plan);
+    let common = patterns::common_of(plan, constant);
+    let payments = patterns::payments_of(plan);
     let mut rates = [[0i64; 30]; 64];
     put_rates(plan, &mut rates);
     let lines = lines_of(common, &payments, &rates, plan.patterns);

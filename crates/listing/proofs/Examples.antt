@@ -20,7 +20,8 @@ use Rattle.plan.specs.Numbers.{numbers}
 use Rattle.plan.specs.Refusal.{answer, headOk, paymentsFit, paymentsOk, outflowsOk, openingOk, costOk, amountsOk, rolloverOk, untilsOk, ratesFit, ratesOk, allocationOk, headRefusal, amountsRefusal, ratesRefusal, allocationRefusal, refusalOf}
 use Rattle.plan.specs.declared.Plan.{Plan}
 use Rattle.plan.proofs.Checks.{answer-accepted}
-use Rattle.planner.specs.Calls.{flowOf, exactLeftOf, leftOf, fundAt, boundAt, coefficientAt, constantAt, flowFits, coefficientsFit, constantFits, coefficientsAt, boundOf}
+use Rattle.patterns.specs.Pattern.{flowOf, exactLeftOf, leftOf, fundAt, boundAt, coefficientAt, constantAt, flowFits, coefficientsFit, constantFits, coefficientsAt}
+use Rattle.planner.specs.Calls.{boundOf}
 use Rattle.planner.specs.Verdict.{
   wordOf,
   bitsOf,

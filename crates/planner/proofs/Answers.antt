@@ -1,15 +1,10 @@
--- What the refusal of a call says, the ways out of a call, what the core's answer tells, and that what a plan does not hold plays no
--- part.
-use mathlib.Core.Path.{_≡_, refl, sym, ap, _∙_}
+-- What the refusal of a call says, the ways out of a call, and that what a plan does not hold plays no part.
+use mathlib.Core.Path.{_≡_, sym, ap, _∙_}
 use mathlib.Core.Bool.{true, false}
 use Prim.Native.Nat.{ℕ, _≤_}
 use native.Mathlib.Omega.{arith}
-use lib.IntN.{ℤ, _+ℤ_}
 use Rattle.whole.specs.Test.{isFrom}
-use Rattle.whole.proofs.Test.{picked-yes, picked-no, picked-is, from-low, from-high}
-use Rattle.reckoning.specs.Reckoning.{fund}
-use Rattle.reckoning.specs.Arrays.{fundFits, fundReckoned}
-use Rattle.reckoning.specs.declared.Reckoned.{Reckoned}
+use Rattle.whole.proofs.Test.{from-low, from-high}
 use Rattle.plan.specs.Held.{Held, held}
 use Rattle.plan.specs.Numbers.{Numbers, meaning, numbers}
 use Rattle.plan.specs.Refusal.{answer, refusalOf, Accepted}
@@ -55,20 +50,6 @@ module _ {A : Type 0} (refused : ℕ → A) {number : ℕ} where
 
   pub out-accepted : {s x : A} → number ≡ 0 → x ≡ s → x ≡ answer refused number s
   out-accepted {s} e f = f ∙ sym (answer-accepted refused number s e)
-
--- ---- what the core's answer for a flow f, with an amount left at the horizon, tells
-module _ (r : ℕ → ℕ) (i f : ℕ → ℤ) (N : ℕ) (left : ℤ) {s : Reckoned} (e : s ≡ fundReckoned r i f N left) where
-  pub reckoned-refused : (s .refusal ≡ 0 → ⊥) → fundFits r i f N left ≡ false
-  unfolding fundReckoned
-  reckoned-refused = picked-no (λ (s : Reckoned). s .refusal) _ _ refl (λ z. omega arith) (fundFits r i f N left) s e
-
-  pub reckoned-fits : s .refusal ≡ 0 → fundFits r i f N left ≡ true
-  unfolding fundReckoned
-  reckoned-fits = picked-yes (λ (s : Reckoned). s .refusal) _ _ refl (λ z. omega arith) (fundFits r i f N left) s e
-
-  pub reckoned-is : s .refusal ≡ 0 → s .fund ≡ fund r i N f +ℤ left
-  unfolding fundReckoned
-  reckoned-is h = ap (λ (s : Reckoned). s .fund) (picked-is (λ (s : Reckoned). s .refusal) _ _ refl (λ z. omega arith) (fundFits r i f N left) s e h)
 
 -- ---- plans that hold the same are answered alike: no answer sees more of a plan than its numbers
 pub answered-alike : {A : Type 0} (answered : Numbers → A) (x y : Plan) → held x ≡ held y → answered (numbers x) ≡ answered (numbers y)

@@ -20,7 +20,8 @@ use Rattle.plan.specs.Held.{instrumentsHeld, outflowsHeld, rolloverHeld, patter
 use Rattle.plan.specs.Numbers.{slope}
 use Rattle.plan.specs.Refusal.{headOk, paymentsOk, paymentsFit, outflowsOk, openingOk, costOk, amountsOk, rolloverOk, untilsOk, ratesOk, ratesFit, allocationOk, headRefusal, amountsRefusal, ratesRefusal, allocationRefusal, refusalOf}
 use Rattle.plan.specs.Case.{nearL, planL, renewed, oneYear, longer, farOut, fourYears}
-use Rattle.planner.specs.Calls.{flowOf, exactFlowOf, exactLeftOf, leftOf, exactAt, fundAt, boundAt, coefficientAt, constantAt, callRefusal, exactFund, fundAnswer, boundOf}
+use Rattle.patterns.specs.Pattern.{flowOf, exactFlowOf, exactLeftOf, leftOf, exactAt, fundAt, boundAt, coefficientAt, constantAt}
+use Rattle.planner.specs.Calls.{callRefusal, exactFund, fundAnswer, boundOf}
 use Rattle.planner.specs.Verdict.{wordOf, wordAt, fundOf, patternWord}
 use Rattle.planner.specs.Case.{fundCases, wordCases, starredCases, openingCases, costCases, costLimits, slopeCases, slopeRefusals}
 

@@ -28,24 +28,14 @@ use Rattle.plan.specs.Numbers.{Numbers, numbers}
 use Rattle.plan.specs.Refusal.{refusalOf, Accepted}
 use Rattle.plan.specs.declared.Plan.{Plan}
 use Rattle.plan.proofs.Checks.{first-none, answer-accepted, not-refused, accepted}
+use Rattle.patterns.specs.Pattern.{noForm, sharedOf, flowOf, exactFlowOf, exactLeftOf, leftOf, exactAt, fundAt, boundAt, coefficientAt, constantAt, valueAt, coefficientsFit, constantFits, formReckoned}
+use Rattle.patterns.specs.declared.FormAnswer.{FormAnswer}
+use Rattle.patterns.proofs.Held.{terms, rollover-held}
+use Rattle.patterns.proofs.Reckoned.{reckoned-is}
+use Rattle.patterns.proofs.Weighing.{no-left}
 use Rattle.planner.specs.Calls.{
   noFund,
   noBound,
-  noForm,
-  sharedOf,
-  flowOf,
-  exactFlowOf,
-  exactLeftOf,
-  leftOf,
-  exactAt,
-  fundAt,
-  boundAt,
-  coefficientAt,
-  constantAt,
-  valueAt,
-  coefficientsFit,
-  constantFits,
-  formReckoned,
   callRefusal,
   exactFund,
   fundAnswer,
@@ -72,13 +62,10 @@ use Rattle.planner.specs.Verdict.{
 use Rattle.planner.specs.Demand3.{FundNear, FormNear, ShortPattern, VerdictTrue}
 use Rattle.planner.specs.Plain.{PlainFlow, PlainHorizon, Plain}
 use Rattle.planner.specs.Alike.{Alike}
-use Rattle.planner.specs.declared.FormAnswer.{FormAnswer}
 use Rattle.planner.specs.declared.VerdictAnswer.{VerdictAnswer}
-use Rattle.planner.proofs.Held.{terms, rollover-held}
-use Rattle.planner.proofs.Answers.{refused-none, called, reckoned-is}
+use Rattle.planner.proofs.Answers.{refused-none, called}
 use Rattle.planner.proofs.Bits.{Lowest, bits-lowest}
 use Rattle.planner.proofs.VerdictLaws.{verdictBy, word-solvent, word-short, plan-solvent, plan-short}
-use Rattle.planner.proofs.Weighing.{no-left}
 use Rattle.planner.proofs.Plain.{flow-plan, horizon-plan, plain-plan}
 use Rattle.planner.proofs.Alike.{alike}
 

@@ -18,9 +18,10 @@ use Rattle.plan.specs.Refusal.{check, firstOf, headOk, paymentsOk, outflowsOk, 
 use Rattle.plan.specs.declared.Plan.{Plan}
 use Rattle.plan.proofs.Held.{rate-at, opening-none, cost-none}
 use Rattle.plan.proofs.Checks.{opening-passes, cost-passes, untils-none}
-use Rattle.planner.specs.Calls.{sharedOf, flowOf, exactFlowOf, exactLeftOf, leftOf, exactAt, fundAt, boundAt, coefficientAt, exactFund, boundOf}
+use Rattle.patterns.specs.Pattern.{sharedOf, flowOf, exactFlowOf, exactLeftOf, leftOf, exactAt, fundAt, boundAt, coefficientAt}
+use Rattle.patterns.proofs.Weighing.{no-left}
+use Rattle.planner.specs.Calls.{exactFund, boundOf}
 use Rattle.planner.specs.Verdict.{fundOf}
-use Rattle.planner.proofs.Weighing.{no-left}
 use Rattle.planner.specs.Plain.{refusalPlain, PlainFlow, PlainHorizon, Plain}
 
 -- the checks in their parts are the checks one after the other; 13 is passed

@@ -17,15 +17,15 @@ use Rattle.reckoning.specs.Arrays.{fundReckoned}
 use Rattle.reckoning.specs.declared.Reckoned.{Reckoned}
 use Rattle.plan.specs.Held.{flag}
 use Rattle.plan.specs.Numbers.{Numbers}
-use Rattle.planner.specs.Calls.{Shared, sharedOf, flowOf, leftOf, flowReckoned, fundAt, boundAt, flowFits, coefficientsFit, constantFits}
+use Rattle.patterns.specs.Pattern.{Shared, sharedOf, flowOf, leftOf, flowReckoned, fundAt, flowFits, coefficientsFit, constantFits, coefficientsReckoned}
+use Rattle.patterns.specs.declared.Coefficients.{Coefficients}
+use Rattle.patterns.proofs.FormLoops.{coefficients-refused, coefficients-fit, coefficients-are}
+use Rattle.patterns.proofs.FormLaws.{bound-is, constant-is}
+use Rattle.patterns.proofs.Reckoned.{reckoned-refused, reckoned-fits, reckoned-is}
 use Rattle.planner.specs.Verdict.{wordOf, noPatternRow, rowFits, wordAt, rowAt, patternWord, rowOf}
-use Rattle.planner.specs.Rows.{coefficientsReckoned, refusedRow, rowReckoned}
-use Rattle.planner.specs.declared.Coefficients.{Coefficients}
+use Rattle.planner.specs.Rows.{refusedRow, rowReckoned}
 use Rattle.planner.specs.declared.PatternRow.{PatternRow}
 use Rattle.planner.specs.declared.OneRow.{OneRow}
-use Rattle.planner.proofs.FormLoops.{coefficients-refused, coefficients-fit, coefficients-are}
-use Rattle.planner.proofs.FormLaws.{constant-is}
-use Rattle.planner.proofs.Answers.{reckoned-refused, reckoned-fits, reckoned-is}
 
 -- ---- the ways out of a pattern
 module _ (S : Shared) (i : ℕ → ℤ) {c : Reckoned} (e : c ≡ flowReckoned S i) where
@@ -45,10 +45,10 @@ module _ (S : Shared) (i : ℕ → ℤ) {c : Reckoned} (e : c ≡ flowReckoned S
 
       pub row-made : c .refusal ≡ 0 → k .refusal ≡ 0 → d .refusal ≡ 0 → {b : ℤ} {w : ℕ} → b ≡ pos (B (h i (S .years)) (S .years) + flag (S .costed)) → w ≡ wordOf (c .fund) b (pos 0) →
           record { refusal = 0; row = record { word = w; fund = c .fund; bound = b; coefficients = k .values; constant = d .fund } } ≡ rowReckoned S i
-      unfolding rowReckoned rowFits rowAt wordAt fundAt boundAt flowFits constantFits
+      unfolding rowReckoned rowFits rowAt wordAt fundAt flowFits constantFits
       row-made c-ok k-ok d-ok b-is w-is = rw (
         w-is,
-        b-is,
+        b-is ∙ ap (λ (b : ℕ). pos b) (bound-is S i),
         reckoned-is (S .r) i (flowOf S) (S .years) (leftOf S) e c-ok,
         coefficients-are S i g k-ok,
         constant-is S i u d-ok,

@@ -16,7 +16,7 @@ use Rattle.whole.proofs.Table.{table-at}
 use Rattle.plan.specs.Numbers.{Numbers}
 use Rattle.plan.specs.Refusal.{refusalOf, Accepted}
 use Rattle.plan.proofs.Checks.{first-some, accepted-none}
-use Rattle.planner.specs.Calls.{sharedOf}
+use Rattle.patterns.specs.Pattern.{sharedOf}
 use Rattle.planner.specs.Verdict.{
   solvent,
   short,

@@ -10,7 +10,8 @@ use Rattle.reckoning.specs.Case.{boundCases, gammaCases}
 use Rattle.plan.specs.Numbers.{Numbers, numbers}
 use Rattle.plan.specs.Refusal.{refusalOf}
 use Rattle.plan.specs.Case.{listed, stepped, planL, renewed, oneYear, longer, farOut, fourYears}
-use Rattle.planner.specs.Calls.{sharedOf, exactFlowOf, coefficientAt, constantAt, exactFund, fundAnswer, boundOf}
+use Rattle.patterns.specs.Pattern.{sharedOf, exactFlowOf, coefficientAt, constantAt}
+use Rattle.planner.specs.Calls.{exactFund, fundAnswer, boundOf}
 use Rattle.planner.specs.Verdict.{solvent, short, close, fundOf, patternWord}
 
 -- the funds of L: -5200000 and 12200000

@@ -9,7 +9,7 @@ use lib.Signed.{_≤ℤ_, _<ℤ_}
 use Rattle.reckoning.specs.Theorem.{FromBelow}
 use Rattle.reckoning.specs.declared.Reckoned.{Reckoned}
 use Rattle.plan.specs.Numbers.{Numbers}
-use Rattle.planner.specs.declared.FormAnswer.{FormAnswer}
+use Rattle.patterns.specs.declared.FormAnswer.{FormAnswer}
 use Rattle.planner.specs.declared.VerdictAnswer.{VerdictAnswer}
 use Rattle.planner.specs.Calls.{exactFund, boundOf, boundAnswer}
 use Rattle.planner.specs.Verdict.{solvent, short}

@@ -13,7 +13,8 @@ use Rattle.reckoning.specs.Bound.{h, B}
 use Rattle.plan.specs.Held.{Held}
 use Rattle.plan.specs.Numbers.{Numbers, meaning}
 use Rattle.plan.specs.Refusal.{check, headOk, paymentsOk, outflowsOk, openingOk, costOk, rolloverOk, ratesOk, allocationOk, refusalOf}
-use Rattle.planner.specs.Calls.{sharedOf, flowOf, exactFlowOf, leftOf, coefficientAt, exactFund, boundOf}
+use Rattle.patterns.specs.Pattern.{sharedOf, flowOf, exactFlowOf, leftOf, coefficientAt}
+use Rattle.planner.specs.Calls.{exactFund, boundOf}
 use Rattle.planner.specs.Verdict.{fundOf}
 
 module _ (P : Numbers) where

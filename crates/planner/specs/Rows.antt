@@ -1,17 +1,15 @@
--- What the code makes of a plan on the way to its answers: the coefficients and the row of a pattern, and of the rows' words the
--- verdict.
+-- What the code makes of a plan on the way to its answers: the row of a pattern, and of the rows' words the verdict.
 use mathlib.Core.List.{List, []}
 use Prim.Native.Nat.{ℕ}
 use lib.Dec.{eqb}
 use lib.ListN.{getD, replicate}
 use lib.IntN.{ℤ, pos}
 use Rattle.whole.specs.Test.{pick}
-use Rattle.planner.specs.declared.Coefficients.{Coefficients}
+use Rattle.patterns.specs.Pattern.{Shared}
 use Rattle.planner.specs.declared.PatternRow.{PatternRow}
 use Rattle.planner.specs.declared.OneRow.{OneRow}
 use Rattle.planner.specs.declared.VerdictAnswer.{VerdictAnswer}
 use Rattle.planner.specs.declared.Judgement.{Judgement}
-use Rattle.planner.specs.Calls.{Shared, coefficientsFit, coefficientsAt}
 use Rattle.planner.specs.Verdict.{short, rowFits, rowAt, bitsOf, planWordOf, noVerdict, noPatternRow}
 
 -- what a refusal holds
@@ -21,13 +19,8 @@ refusedRow = record { refusal = 11; row = noPatternRow }
 abbrev pub noJudgement : ℕ → Judgement
 noJudgement number = record { verdict = noVerdict number; rows = replicate 64 noPatternRow }
 
--- K_1 to K_n and the row of a pattern of the rates i, unless check 11 refuses one of the flows
+-- the row of a pattern of the rates i, unless check 11 refuses one of the flows
 module _ (S : Shared) (i : ℕ → ℤ) where
-  unfoldable pub coefficientsReckoned : Coefficients
-  coefficientsReckoned = pick (coefficientsFit S i)
-      (record { refusal = 0; values = coefficientsAt S i })
-      (record { refusal = 11; values = replicate 16 (pos 0) })
-
   unfoldable pub rowReckoned : OneRow
   rowReckoned = pick (rowFits S i) (record { refusal = 0; row = rowAt S i }) refusedRow
 

@@ -10,10 +10,10 @@ use Rattle.whole.specs.Test.{pick, both, all}
 use Rattle.whole.specs.Table.{table}
 use Rattle.plan.specs.Numbers.{Numbers}
 use Rattle.plan.specs.Refusal.{answer, firstOf, check, refusalOf}
+use Rattle.patterns.specs.Pattern.{Shared, sharedOf, fundAt, boundAt, constantAt, coefficientsAt, flowFits, coefficientsFit, constantFits}
 use Rattle.planner.specs.declared.PatternRow.{PatternRow}
 use Rattle.planner.specs.declared.Judgement.{Judgement}
 use Rattle.planner.specs.declared.VerdictAnswer.{VerdictAnswer}
-use Rattle.planner.specs.Calls.{Shared, sharedOf, fundAt, boundAt, constantAt, coefficientsAt, flowFits, coefficientsFit, constantFits}
 
 -- words are numbers from 1, in this order
 abbrev pub solvent : ℕ

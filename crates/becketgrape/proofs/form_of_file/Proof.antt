@@ -1,6 +1,7 @@
 -- `becketgrape::form_of_file` answers the refusal of the reading, or what the call answers for the plan that was read.
 use borrow.Author.Needs.{needs}
-use Rattle.planner.specs.Calls.{noForm, formAnswer}
+use Rattle.patterns.specs.Pattern.{noForm}
+use Rattle.planner.specs.Calls.{formAnswer}
 use Rattle.becketgrape.specs.Calls.{formOfFile}
 use Rattle.becketgrape.proofs.OnFile.{file-refused, file-called}
 use Rattle.becketgrape.proofs.form_of_file.Statement.{statement}

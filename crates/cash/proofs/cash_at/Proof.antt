@@ -6,7 +6,7 @@ use lib.IntN.{ℤ}
 use Rattle.reckoning.specs.Arrays.{ratesOf}
 use Rattle.plan.specs.Numbers.{numbers}
 use Rattle.plan.specs.Refusal.{Accepted}
-use Rattle.planner.proofs.Held.{years, flow-ready, flow-are}
+use Rattle.patterns.proofs.Held.{years, flow-ready, flow-are}
 use Rattle.planner.proofs.Answers.{out-refused, out-accepted}
 use Rattle.cash.specs.Call.{noCash, numbersRefusal, cashReckoned, cashAt}
 use Rattle.cash.proofs.Lists.{rates-ready}

@@ -11,9 +11,9 @@ use Rattle.whole.specs.Test.{all}
 use Rattle.whole.proofs.Range.{back, within-fits, ok64}
 use Rattle.whole.proofs.Test.{all-none, all-more, all-end, all-fails}
 use Rattle.reckoning.specs.Arrays.{ratesOf}
-use Rattle.planner.specs.Calls.{flowReckoned}
-use Rattle.planner.specs.Arrays.{sharedIn}
-use Rattle.planner.proofs.Held.{ready, cost-weighable, flow-amounts, flow-reckoned}
+use Rattle.patterns.specs.Pattern.{flowReckoned}
+use Rattle.patterns.specs.Arrays.{sharedIn}
+use Rattle.patterns.proofs.Held.{ready, cost-weighable, flow-amounts, flow-reckoned}
 use Rattle.finder.specs.Lines.{fundPasses}
 use Rattle.finder.proofs.LineLaws.{fund-refused, fund-below, fund-passes}
 use Rattle.finder.proofs.funds_pass.Statement.{statement}

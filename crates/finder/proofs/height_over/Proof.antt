@@ -1,4 +1,4 @@
--- `finder::height_over` weighs the shares (planner, Weighing), and adds the line's constant.
+-- `finder::height_over` weighs the shares (patterns, Weighing), and adds the line's constant.
 use mathlib.Core.Path.{_≡_, refl, ap}
 use mathlib.Core.List.{[]}
 use Prim.Native.Nat.{ℕ, _-_, _*_}
@@ -11,8 +11,8 @@ use mir.Val.{SFits, toZ}
 use Rattle.whole.specs.Range.{million, limit, Within}
 use Rattle.whole.proofs.Range.{within-fits, within-add, within-pos, back, pos64}
 use Rattle.whole.proofs.Sum.{sumℕ-one}
-use Rattle.planner.specs.Arrays.{Weighable}
-use Rattle.planner.proofs.Weighing.{Weighing, weigh-start, product-fits, weigh-turn, sum-fits, weigh-end, weighted-within}
+use Rattle.patterns.specs.Arrays.{Weighable}
+use Rattle.patterns.proofs.Weighing.{Weighing, weigh-start, product-fits, weigh-turn, sum-fits, weigh-end, weighted-within}
 use Rattle.finder.proofs.height_over.Statement.{statement}
 use Rattle.finder.proofs.height_over.Tie as tie
 

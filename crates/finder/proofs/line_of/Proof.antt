@@ -9,7 +9,7 @@ use mir.Val.{SFits}
 use Rattle.whole.specs.Range.{million, limit, Within}
 use Rattle.whole.proofs.Bridge.{whole}
 use Rattle.whole.proofs.Range.{within-add, within-mul, within-pos, within-fits, back, ok64}
-use Rattle.planner.specs.Calls.{boundAt}
+use Rattle.patterns.specs.Pattern.{boundAt}
 use Rattle.finder.proofs.Lines.{line-constant-within}
 use Rattle.finder.proofs.LineLaws.{line-refused, line-made, form-constant-within}
 use Rattle.finder.proofs.line_of.Statement.{statement}

@@ -6,7 +6,7 @@ use lib.ListN.{getD, replicate}
 use lib.IntN.{pos}
 use Rattle.whole.proofs.Filling.{Filling, fill-start, fill-turn, fill-end}
 use Rattle.reckoning.specs.Arrays.{ratesOf}
-use Rattle.planner.specs.Arrays.{sharedIn}
+use Rattle.patterns.specs.Arrays.{sharedIn}
 use Rattle.finder.specs.Lines.{lineOf, linesOf}
 use Rattle.finder.proofs.lines_of.Statement.{statement}
 use Rattle.finder.proofs.lines_of.Tie as tie

@@ -1,6 +1,6 @@
 -- `finder::look` puts the shares into what all patterns share.
 use borrow.Author.Needs.{needs}
-use Rattle.planner.specs.Arrays.{Prepared}
+use Rattle.patterns.specs.Arrays.{Prepared}
 use Rattle.finder.specs.Lines.{commonWith, looked}
 use Rattle.finder.proofs.look.Statement.{statement}
 use Rattle.finder.proofs.look.Tie as tie

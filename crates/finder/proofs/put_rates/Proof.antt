@@ -6,7 +6,7 @@ use lib.IntN.{pos}
 use Rattle.whole.proofs.Filling.{Filling, fill-start, fill-turn, fill-as}
 use Rattle.plan.specs.Held.{patternHeld, missingPattern}
 use Rattle.plan.specs.Numbers.{ratesMeant}
-use Rattle.planner.proofs.Held.{rates-array}
+use Rattle.patterns.proofs.Held.{rates-array}
 use Rattle.finder.proofs.put_rates.Statement.{statement}
 use Rattle.finder.proofs.put_rates.Tie as tie
 

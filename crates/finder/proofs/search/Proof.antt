@@ -14,9 +14,9 @@ use Rattle.plan.specs.Numbers.{numbers}
 use Rattle.plan.specs.Refusal.{Accepted}
 use Rattle.plan.specs.declared.Plan.{Plan}
 use Rattle.plan.specs.declared.Shape.{Shape}
-use Rattle.planner.specs.Arrays.{rolloverArray, commonOf}
-use Rattle.planner.specs.declared.Common.{Common}
-use Rattle.planner.proofs.Held.{prepared-is}
+use Rattle.patterns.specs.Arrays.{rolloverArray, commonOf}
+use Rattle.patterns.specs.declared.Common.{Common}
+use Rattle.patterns.proofs.Held.{prepared-is}
 use Rattle.finder.specs.Find.{solventWith, firstThat}
 use Rattle.finder.specs.Lines.{wideOf, passes, Searchable}
 use Rattle.finder.specs.Placing.{Placing, placements, Tells}

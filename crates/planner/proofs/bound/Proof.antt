@@ -9,8 +9,9 @@ use Rattle.whole.proofs.Range.{back, ok64}
 use Rattle.reckoning.specs.Bound.{h, B}
 use Rattle.plan.specs.Held.{flag}
 use Rattle.plan.specs.Numbers.{numbers}
-use Rattle.planner.specs.Calls.{noBound, boundAt, callRefusal, boundOf, boundAnswer}
-use Rattle.planner.proofs.Held.{years, rates-ready, rates-are}
+use Rattle.patterns.specs.Pattern.{boundAt}
+use Rattle.patterns.proofs.Held.{years, rates-ready, rates-are}
+use Rattle.planner.specs.Calls.{noBound, callRefusal, boundOf, boundAnswer}
 use Rattle.planner.proofs.Answers.{Called, called, out-refused, out-accepted}
 use Rattle.planner.proofs.bound.Statement.{statement}
 use Rattle.planner.proofs.bound.Tie as tie

@@ -2,8 +2,9 @@
 use mathlib.Core.Path.{_≡_, sym, ap₂, _∙_}
 use borrow.Author.Needs.{needs}
 use Rattle.plan.specs.Numbers.{numbers}
-use Rattle.planner.specs.Calls.{noForm, formReckoned, callRefusal, formAnswer}
-use Rattle.planner.proofs.Held.{rates-ready, rates-are, prepared-is, shared-is}
+use Rattle.patterns.specs.Pattern.{noForm, formReckoned}
+use Rattle.patterns.proofs.Held.{rates-ready, rates-are, prepared-is, shared-is}
+use Rattle.planner.specs.Calls.{callRefusal, formAnswer}
 use Rattle.planner.proofs.Answers.{Called, called, out-refused, out-accepted}
 use Rattle.planner.proofs.Demand3.{form-answered}
 use Rattle.planner.proofs.form.Statement.{statement}

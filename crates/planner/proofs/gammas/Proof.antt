@@ -5,8 +5,8 @@ use borrow.Author.Needs.{needs}
 use lib.IntN.{ℤ}
 use Rattle.reckoning.specs.Arrays.{gammasReckoned}
 use Rattle.plan.specs.Numbers.{numbers}
+use Rattle.patterns.proofs.Held.{years, terms-ready, shares-are, rates-ready, rates-are}
 use Rattle.planner.specs.Calls.{noGammas, callRefusal, gammasAnswer}
-use Rattle.planner.proofs.Held.{years, terms-ready, shares-are, rates-ready, rates-are}
 use Rattle.planner.proofs.Answers.{Called, called, out-refused, out-accepted}
 use Rattle.planner.proofs.gammas.Statement.{statement}
 use Rattle.planner.proofs.gammas.Tie as tie

@@ -14,11 +14,11 @@ use Rattle.reckoning.specs.Arrays.{ratesOf}
 use Rattle.plan.specs.Held.{patternHeld, missingPattern}
 use Rattle.plan.specs.Numbers.{Numbers, ratesMeant, numbers}
 use Rattle.plan.specs.declared.Pattern.{Pattern}
-use Rattle.planner.specs.Calls.{sharedOf}
-use Rattle.planner.specs.Arrays.{sharedIn}
+use Rattle.patterns.specs.Pattern.{sharedOf}
+use Rattle.patterns.specs.Arrays.{sharedIn}
+use Rattle.patterns.proofs.Held.{rates-array, rates-ready, rates-are, prepared-is, shared-is, cost-weighable}
 use Rattle.planner.specs.Rows.{rowReckoned}
 use Rattle.planner.specs.declared.OneRow.{OneRow}
-use Rattle.planner.proofs.Held.{rates-array, rates-ready, rates-are, prepared-is, shared-is, cost-weighable}
 use Rattle.planner.proofs.RowLaws.{Rowed, rows-start, rows-turn, rows-refuse, rows-fit, words-are, rows-are}
 use Rattle.planner.proofs.VerdictLaws.{pattern-refuses, judge-refused, judge-made}
 use Rattle.planner.proofs.judged.Statement.{statement}

@@ -6,10 +6,10 @@ use mir.Syntax.{w64}
 use mir.Val.{SFits}
 use Rattle.whole.proofs.Range.{back, ok64}
 use Rattle.reckoning.specs.Arrays.{ratesOf}
-use Rattle.planner.specs.Calls.{Shared, flowReckoned}
-use Rattle.planner.specs.Arrays.{sharedIn}
+use Rattle.patterns.specs.Pattern.{Shared, flowReckoned}
+use Rattle.patterns.specs.Arrays.{sharedIn}
+use Rattle.patterns.proofs.Held.{ready, left-within, flow-amounts, flow-reckoned}
 use Rattle.planner.specs.Verdict.{wordOf}
-use Rattle.planner.proofs.Held.{ready, left-within, flow-amounts, flow-reckoned}
 use Rattle.planner.proofs.RowLaws.{row-unfunded, row-unformed, row-unbalanced, row-made}
 use Rattle.planner.proofs.row_at.Statement.{statement}
 use Rattle.planner.proofs.row_at.Tie as tie
