@@ -163,7 +163,8 @@ uint8_t planner_write(const size_t counts[PLANNER_AT_LEAST(PLANNER_COUNTS)], con
 /* The calls on one pattern, counted from 1. Refusals 1 to 11 and 13; the bound's call reckons no cell and has no 11. */
 
 /* The reckoned fund, with what is left at the horizon inside: never above the exact fund, which has it inside too, and below it by less
- * than the bound. */
+ * than the bound. Where all rates of the pattern are equal, two files that differ only in their rollover, if both are accepted, have funds
+ * that are less than the bound apart. */
 uint8_t planner_fund(const uint8_t *file, size_t file_length, size_t pattern, int64_t *fund);
 
 /* The bound B; one more where the plan holds a cost, also where every amount of it is 0. */

@@ -1,6 +1,6 @@
 -- The ways out of a call on a file, by what the file or its records were read as, and what the call's answer says of the exact fund or
 -- account.
-use mathlib.Core.Path.{_≡_, refl, sym, ap, _∙_, subst}
+use mathlib.Core.Path.{_≡_, refl, sym, ap, _∙_, subst, subst₂}
 use mathlib.Core.Bool.{Bool, true, false}
 use mathlib.Core.List.{List}
 use Prim.Native.Nat.{ℕ, zero, suc}
@@ -8,14 +8,18 @@ use native.Mathlib.Omega.{arith}
 use lib.Dec.{leb}
 use lib.IntN.{ℤ}
 use lib.ListN.{length}
+use Rattle.reckoning.specs.declared.Reckoned.{Reckoned}
 use Rattle.plan.specs.Held.{noPlan, planFrom}
 use Rattle.plan.specs.Numbers.{Numbers, numbers}
 use Rattle.plan.specs.Refusal.{check, firstOf, answer, refusalOf}
+use Rattle.plan.proofs.Checks.{answer-accepted, not-refused}
 use Rattle.patterns.specs.Pattern.{noForm}
-use Rattle.planner.specs.Calls.{noFund, fundAnswer, formAnswer}
+use Rattle.planner.specs.Calls.{noFund, noBound, fundAnswer, boundAnswer, formAnswer}
 use Rattle.planner.specs.Verdict.{noVerdict, verdictAnswer}
 use Rattle.planner.specs.Demand3.{FundNear, FormNear, VerdictTrue}
+use Rattle.planner.specs.Level.{LevelApart}
 use Rattle.planner.proofs.Answers.{out-refused, out-accepted}
+use Rattle.planner.proofs.Level.{level-true}
 use Rattle.cash.specs.Theorem.{CashTrue}
 use Rattle.cash.specs.Call.{noCash, cashAnswer}
 use Rattle.cash.proofs.Call.{cash-true}
@@ -29,8 +33,9 @@ use Rattle.planfile.specs.Groups.{groupsOf}
 use Rattle.planfile.specs.Records.{heldIn}
 use Rattle.planfile.specs.declared.ReadAnswer.{ReadAnswer}
 use Rattle.planfile.proofs.Answers.{records-numbers, read-numbers}
-use Rattle.listing.proofs.Demand3.{of-file}
-use Rattle.becketgrape.specs.Calls.{onReading, onFile, fundOfFile, formOfFile, verdictOfFile, cashOfFile, findOfFile}
+use Rattle.listing.proofs.Demand3.{of-file, level-exact-of}
+use Rattle.becketgrape.specs.Calls.{onReading, onFile, fundOfFile, boundOfFile, formOfFile, verdictOfFile, cashOfFile, findOfFile}
+use Rattle.becketgrape.specs.Level.{LevelOfFile}
 
 module _ (s : List ℕ) {A : Type 0} (refused : ℕ → A) (call : Numbers → A) where
   -- a reading r, in which the file's numbers stand, and that was answered as a
@@ -74,11 +79,34 @@ module _ (s : List ℕ) (t : ℕ) where
       either s noFund (λ P. fundAnswer P t) (readAnswer s) (FundNear (numbersIn s) t)
       (λ n h. record { near = λ e. absurd (h e); bound = λ e. absurd (h e) }) (λ e. of-file s .claims e .fund t)
 
+  -- an accepted answer is that of the call on the numbers of a file that was read
+  fund-read : fundOfFile s t .refusal ≡ 0 → readAnswer s .refusal ≡ 0
+  unfolding fundOfFile
+  fund-read = not-refused noFund _ (λ (a : Reckoned). a .refusal) (λ n. refl) _
+
+  fund-of-read : readAnswer s .refusal ≡ 0 → fundOfFile s t ≡ fundAnswer (numbersIn s) t
+  unfolding fundOfFile
+  fund-of-read = answer-accepted noFund (readAnswer s .refusal) _
+
+  bound-of-read : readAnswer s .refusal ≡ 0 → boundOfFile s t ≡ boundAnswer (numbersIn s) t
+  unfolding boundOfFile
+  bound-of-read = answer-accepted noBound (readAnswer s .refusal) _
+
   pub form-near : FormNear (numbersIn s) t (formOfFile s t)
   unfolding formOfFile
   form-near =
       either s noForm (λ P. formAnswer P t) (readAnswer s) (FormNear (numbersIn s) t)
       (λ n h. record { near = λ e. absurd (h e); bound = λ e. absurd (h e) }) (λ e. of-file s .claims e .form t)
+
+pub level-of-file : (s : List ℕ) (t : ℕ) → LevelOfFile s t (fundOfFile s t)
+level-of-file s t = record {
+  exact = λ e. level-exact-of s e t;
+  apart = λ f pair e g.
+      let a = fund-read s t e in
+      let b = fund-read f t g in
+      let apart = subst₂ (λ (P Q : Numbers). LevelApart P Q t (fundAnswer P t) (fundAnswer Q t) (boundAnswer P t)) (read-numbers s a) (read-numbers f b) (level-true (readAnswer s .plan) t .apart (readAnswer f .plan)) in
+      rw (bound-of-read s t a, fund-of-read s t a, fund-of-read f t b) (apart pair (rw (fund-of-read s t a) at e) (rw (fund-of-read f t b) at g));
+}
 
 pub verdict-true : (s : List ℕ) → VerdictTrue (numbersIn s) (verdictOfFile s)
 unfolding verdictOfFile

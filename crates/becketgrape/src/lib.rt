@@ -21,6 +21,7 @@ ghost use Rattle.planfile.specs.Read.{numbersIn, readAnswer};
 ghost use Rattle.planfile.specs.Write.{writeAnswer, bufferAfter};
 ghost use Rattle.planfile.specs.Demand2.{OneFile};
 ghost use Rattle.arrays.specs.Arrays.{allCounts, allAmounts, allShares, allRates, allGammas, planOfArrays};
+ghost use Rattle.reckoning.specs.Level.{LevelEveryYear};
 ghost use Rattle.planner.specs.Demand3.{FundNear, FormNear, VerdictTrue};
 ghost use Rattle.cash.specs.Theorem.{NearEveryYear, CashTrue};
 ghost use Rattle.cash.specs.Alike.{CashAlike};
@@ -28,6 +29,7 @@ ghost use Rattle.cash.specs.Uncosted.{CashUncosted};
 ghost use Rattle.finder.specs.Claims.{FindTrue};
 ghost use Rattle.finder.specs.Alike.{FindAlike};
 ghost use Rattle.becketgrape.specs.Calls.{fundOfFile, boundOfFile, formOfFile, gammasOfFile, verdictOfFile, cashOfFile, findOfFile};
+ghost use Rattle.becketgrape.specs.Level.{LevelOfFile};
 
 // The listing of a file, in the first bytes of `out`: how many they are.
 #[no_mangle]
@@ -108,11 +110,14 @@ fn fund_of_file(file: &[u8], t: usize) -> Reckoned
     planner::fund(plan, t)
 }
 
-// The fund with what is left at the horizon, never above the exact fund, which has it inside too, and below it by less than the bound.
+// The fund with what is left at the horizon, never above the exact fund, which has it inside too, and below it by less than the bound. At
+// level rates another rollover moves it by less than the bound.
 #[no_mangle]
 pub extern "C" fn planner_fund(file: &[u8], pattern: usize, fund: &mut i64) -> u8
     ensures is { λ r. ⌜ record { refusal = r; fund = now (fund .exit) } ≡ fundOfFile (now (file .entry)) pattern ⌝ }
     ensures near { λ r. ⌜ FundNear (numbersIn (now (file .entry))) pattern (record { refusal = r; fund = now (fund .exit) }) ⌝ }
+    ensures level { λ r. ⌜ LevelOfFile (now (file .entry)) pattern (record { refusal = r; fund = now (fund .exit) }) ⌝ }
+    ensures theorem { λ _. ⌜ LevelEveryYear ⌝ }
 {
     let answer = fund_of_file(file, pattern);
     let z = answer.fund;

@@ -1,5 +1,5 @@
 -- What is true of every file that is listed.
-use mathlib.Core.Path.{_≡_, refl, sym, ap, _∙_}
+use mathlib.Core.Path.{_≡_, refl, sym, ap, _∙_, subst₂}
 use mathlib.Core.List.{List}
 use Prim.Native.Nat.{ℕ}
 use native.Mathlib.Omega.{arith}
@@ -9,8 +9,10 @@ use Rattle.plan.specs.Refusal.{refusalOf}
 use Rattle.plan.proofs.Checks.{answer-accepted}
 use Rattle.planner.specs.Verdict.{judgementOf}
 use Rattle.planner.specs.Alike.{meant}
+use Rattle.planner.specs.Level.{RowsApart}
 use Rattle.planner.proofs.Plain.{plain-flow, plain-horizon, plain-held}
 use Rattle.planner.proofs.Alike.{alike}
+use Rattle.planner.proofs.Level.{rows-apart}
 use Rattle.planfile.specs.Records.{heldIn}
 use Rattle.planfile.specs.Read.{numbersIn, readAnswer}
 use Rattle.planfile.proofs.Answers.{unopened-none, uncosted-none, uncosted-in, plain-unopened, plain-uncosted, read-numbers, plan-passes}
@@ -18,7 +20,7 @@ use Rattle.planfile.proofs.Demand2.{file-read}
 use Rattle.planfile.proofs.Plain.{plain-file, plain-kinds}
 use Rattle.listing.specs.Text.{refusedText, judgementText, planText, textOf}
 use Rattle.listing.specs.Demands.{Demands}
-use Rattle.listing.proofs.Demand3.{of-file}
+use Rattle.listing.proofs.Demand3.{of-file, level-exact-of}
 
 -- the text of what a file means
 unfoldable textOfNumbers : Numbers → List ℕ
@@ -52,4 +54,6 @@ demands {s} b = record {
   plain-numbers = λ e. plain-held (heldIn s) e (unopened-none s (plain-unopened s e)) (uncosted-none s (plain-uncosted s e));
   alike = alike (heldIn s);
   printed-alike = text-alike s;
+  level-exact = level-exact-of s;
+  level-apart = λ f e g t. subst₂ (λ (P Q : Numbers). RowsApart P Q t) (read-numbers s e) (read-numbers f g) (rows-apart (readAnswer s .plan) (readAnswer f .plan) t);
 }

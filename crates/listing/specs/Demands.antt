@@ -6,6 +6,7 @@ use Prim.Native.Nat.{ℕ}
 use Rattle.plan.specs.Held.{PlainHeld}
 use Rattle.planner.specs.Plain.{PlainFlow, PlainHorizon, Plain}
 use Rattle.planner.specs.Alike.{meant, Alike}
+use Rattle.planner.specs.Level.{LevelExact, RowsApart}
 use Rattle.planfile.specs.Checks.{shapeIn}
 use Rattle.planfile.specs.Records.{heldIn}
 use Rattle.planfile.specs.Read.{numbersIn, readAnswer}
@@ -29,3 +30,7 @@ pub record Demands (s : List ℕ) : Type 0 where
   -- a file with slopes is answered, and printed, as one that lists the same rates
   pub alike : Alike (heldIn s)
   pub printed-alike : (t : List ℕ) → readAnswer s .refusal ≡ 0 → readAnswer t .refusal ≡ 0 → meant (numbersIn s) ≡ meant (numbersIn t) → textOf s ≡ textOf t
+  -- in a pattern of level rates the exact fund does not know the rollover, and two files that differ only in it are listed with funds that are less
+  -- than the listed B apart
+  pub level-exact : readAnswer s .refusal ≡ 0 → (t : ℕ) → LevelExact (numbersIn s) t
+  pub level-apart : (f : List ℕ) → readAnswer s .refusal ≡ 0 → readAnswer f .refusal ≡ 0 → (t : ℕ) → RowsApart (numbersIn s) (numbersIn f) t

@@ -1,8 +1,8 @@
 -- The plans of the worked cases: L and its neighbours, the plans of one year, those of four with one pattern, those of three with a slope and
--- a list, and those of fourteen that come near the limit.
+-- a list, those of fourteen that come near the limit, and those of six at several rollovers.
 use mathlib.Core.Bool.{Bool, true, false}
 use mathlib.Core.List.{List, [], _∷_, _++_}
-use Prim.Native.Nat.{ℕ}
+use Prim.Native.Nat.{ℕ, _-_}
 use lib.ListN.{replicate}
 use lib.IntN.{ℤ, pos}
 use Rattle.plan.specs.declared.Instrument.{Instrument}
@@ -140,4 +140,25 @@ sloping start step until other = record {
   opening = replicate 30 (pos 0);
   costed = false;
   cost = replicate 16 (pos 0);
+}
+
+-- six years, a note of three and one of six, half in either, bills that rise by 4 percent a year, a level pattern of 50000, one that rises from
+-- there, a rollover of so many terms, and the cost of each note, held or not (examples/level_one_year.txt is one of these)
+unfoldable pub sixYears : (terms : ℕ) (shares : List ℕ) (costed : Bool) (cost : ℤ) → Plan
+sixYears terms shares costed cost = record {
+  years = 6;
+  instruments = 2;
+  terms = terms;
+  patterns = 2;
+  instrument =
+      record { payments = pos 47_500_000 ∷ pos 47_500_000 ∷ pos 1_047_500_000 ∷ replicate 27 (pos 0) }
+      ∷ record { payments = replicate 5 (pos 52_500_000) ++ (pos 1_052_500_000 ∷ replicate 24 (pos 0)) } ∷ replicate 14 noInstrument;
+  outflows = pos 179_000_000 ∷ pos 186_160_000 ∷ pos 193_606_400 ∷ pos 201_350_656 ∷ pos 209_404_682 ∷ pos 217_780_869 ∷ replicate 24 (pos 0);
+  rollover = shares ++ replicate (30 - terms) 0;
+  pattern = listed (replicate 5 (pos 50_000) ++ replicate 25 (pos 0)) ∷ stepped (pos 50_000) (pos 5_000) 4 ∷ replicate 62 noPattern;
+  allocation = 500_000 ∷ 500_000 ∷ replicate 14 0;
+  opened = false;
+  opening = replicate 30 (pos 0);
+  costed = costed;
+  cost = cost ∷ cost ∷ replicate 14 (pos 0);
 }

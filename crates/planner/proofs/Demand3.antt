@@ -75,7 +75,7 @@ module _ (plan : Plan) (t : ℕ) where
 
   -- ---- what the theorem says of an accepted plan
   module _ (ok : Accepted P) where
-    given : Given (P .r) (P .i t) (P .years)
+    pub given : Given (P .r) (P .i t) (P .years)
     given = record {
       years = ok .head .years-some;
       shares = λ d. subst (λ (r : ℕ → ℕ). Σℕ 1 d r ≤ million) (rollover-held plan ok) (shares-le (terms plan ok) d);
@@ -121,7 +121,7 @@ module _ (plan : Plan) (t : ℕ) where
 
   -- ---- the fund
   module _ (e : fundAnswer P t .refusal ≡ 0) where
-    fund-called : callRefusal P t ≡ 0
+    pub fund-called : callRefusal P t ≡ 0
     unfolding fundAnswer
     fund-called = not-refused noFund _ (λ (s : Reckoned). s .refusal) (λ n. refl) _ e
 
@@ -147,9 +147,6 @@ module _ (plan : Plan) (t : ℕ) where
   form-near = record { near = λ e. rw (form-is e) (form-below (called plan t (form-called e) .plan-ok)); bound = λ e. bound-is (form-called e) }
 
   -- ---- an answer, and with it what it means
-  pub fund-answered : {s : Reckoned} → s ≡ fundAnswer P t → (s ≡ fundAnswer P t) × FundNear P t s
-  fund-answered e = (e, subst (FundNear P t) (sym e) fund-near)
-
   pub form-answered : {s : FormAnswer} → s ≡ formAnswer P t → (s ≡ formAnswer P t) × FormNear P t s
   form-answered e = (e, subst (FormNear P t) (sym e) form-near)
 
@@ -170,9 +167,9 @@ module _ (plan : Plan) where
     unfolding verdictAnswer
     verdict-called = not-refused noVerdict _ (λ (s : VerdictAnswer). s .refusal) (λ n. refl) _ e
 
-    ok : Accepted (numbers plan)
+    pub verdict-accepted : Accepted (numbers plan)
     unfolding verdictRefusal
-    ok = accepted plan (first-none (refusalOf (numbers plan)) _ verdict-called)
+    verdict-accepted = accepted plan (first-none (refusalOf (numbers plan)) _ verdict-called)
 
     verdict-is : verdictAnswer (numbers plan) ≡ verdictBy m word
     unfolding verdictAnswer shortBits planWord
@@ -189,20 +186,20 @@ module _ (plan : Plan) where
       word-at : getD (verdictAnswer (numbers plan) .words) (t - 1) 0 ≡ patternWord (numbers plan) t
       word-at =
           ap (λ (s : VerdictAnswer). getD (s .words) (t - 1) 0) verdict-is
-          ∙ table-at 64 m word 0 0 (t - 1) (omega arith) (ok .head .patterns-few) ∙ word-is
+          ∙ table-at 64 m word 0 0 (t - 1) (omega arith) (verdict-accepted .head .patterns-few) ∙ word-is
 
       solvent-fund : patternWord (numbers plan) t ≡ solvent → pos 0 ≤ℤ exactFund (numbers plan) t
       unfolding patternWord wordAt fundOf boundOf
-      solvent-fund h = subst (λ (z : ℤ). z ≤ℤ exactFund (numbers plan) t) (zero-*ℤ (pos (10 ^ (12 * plan .years)))) (exactly-solvent (pos 0) (fund-below plan t ok) (word-solvent _ _ _ h))
+      solvent-fund h = subst (λ (z : ℤ). z ≤ℤ exactFund (numbers plan) t) (zero-*ℤ (pos (10 ^ (12 * plan .years)))) (exactly-solvent (pos 0) (fund-below plan t verdict-accepted) (word-solvent _ _ _ h))
 
       short-fund : patternWord (numbers plan) t ≡ short → exactFund (numbers plan) t <ℤ pos 0
       unfolding patternWord wordAt fundOf boundOf
-      short-fund h = subst (λ (z : ℤ). exactFund (numbers plan) t <ℤ z) (zero-*ℤ (pos (10 ^ (12 * plan .years)))) (exactly-short (pos 0) (pattern-fund-close plan t ok .either) (word-short _ _ _ h))
+      short-fund h = subst (λ (z : ℤ). exactFund (numbers plan) t <ℤ z) (zero-*ℤ (pos (10 ^ (12 * plan .years)))) (exactly-short (pos 0) (pattern-fund-close plan t verdict-accepted .either) (word-short _ _ _ h))
 
       -- the row's fund, and its bound
       pub row-near : FromBelow (plan .years) (exactFund (numbers plan) t) (rowOf (numbers plan) t .fund) (boundOf (numbers plan) t)
       unfolding rowOf rowAt fundOf
-      row-near = fund-below plan t ok
+      row-near = fund-below plan t verdict-accepted
 
       pub row-bound : boundAnswer (numbers plan) t ≡ record { refusal = 0; bound = rowOf (numbers plan) t .bound }
       unfolding rowOf rowAt boundOf verdictRefusal

@@ -1,17 +1,19 @@
 -- Document 01, "Edges": the starred cases of the funds and the words, and all starred cases in one list. Beside them, what money already
--- invested does, what the cost at the horizon does, and what slopes mean.
+-- invested does, what the cost at the horizon does, what slopes mean, and what the rollover does at level rates.
 use mathlib.Core.Bool.{Bool, true, false}
 use mathlib.Core.List.{List, [], _∷_, _++_}
-use Prim.Native.Nat.{ℕ, _+_}
+use Prim.Native.Nat.{ℕ, _+_, _*_, _^_}
 use lib.IntN.{ℤ, pos, negsuc}
 use lib.ListN.{replicate}
 use Rattle.whole.specs.Case.{Case, shareCases}
 use Rattle.reckoning.specs.Case.{boundCases, gammaCases}
 use Rattle.plan.specs.Numbers.{Numbers, numbers}
 use Rattle.plan.specs.Refusal.{refusalOf}
-use Rattle.plan.specs.Case.{listed, stepped, planL, renewed, oneYear, longer, farOut, fourYears}
+use Rattle.plan.specs.declared.Plan.{Plan}
+use Rattle.plan.specs.Case.{listed, stepped, planL, renewed, oneYear, longer, farOut, fourYears, sixYears}
 use Rattle.patterns.specs.Pattern.{sharedOf, exactFlowOf, coefficientAt, constantAt}
 use Rattle.planner.specs.Calls.{exactFund, fundAnswer, boundOf}
+use Rattle.planner.specs.Level.{levelFund}
 use Rattle.planner.specs.Verdict.{solvent, short, close, fundOf, patternWord}
 
 -- the funds of L: -5200000 and 12200000
@@ -128,4 +130,39 @@ slopeRefusals =
     ∷ record { given = refusalIn (negsuc 0) (pos 1) 2; stated = pos 0 }
     ∷ record { given = refusalIn (pos 2_147_483_647) (pos 2_147_483_647) 30; stated = pos 8 }
     ∷ record { given = refusalIn (negsuc 2_147_483_647) (negsuc 2_147_483_647) 30; stated = pos 8 }
+    ∷ []
+
+-- document 02, item 7. One plan at three rollovers: all after one year, in thirds over three years, all after five. At the level rate of pattern
+-- 1 the exact fund is 5534730.2975 at each of them, which is the closed form, and the funds are 5534729, 5534717 and 5534728, less than B = 64
+-- apart. At the rates of pattern 2, which rise, the rollover decides whether the plan is short. A cost of 3 on each note makes fund and exact
+-- fund 3 more, and B 65.
+abbrev pub afterOne : Plan
+afterOne = sixYears 1 (1_000_000 ∷ []) false (pos 0)
+
+abbrev pub inThirds : Plan
+inThirds = sixYears 3 (333_333 ∷ 333_333 ∷ 333_334 ∷ []) false (pos 0)
+
+abbrev afterFive : Plan
+afterFive = sixYears 5 (replicate 4 0 ++ (1_000_000 ∷ [])) false (pos 0)
+
+abbrev costedThirds : Plan
+costedThirds = sixYears 3 (333_333 ∷ 333_333 ∷ 333_334 ∷ []) true (pos 3)
+
+unfoldable pub levelCases : List Case
+levelCases =
+    record { given = fundOf (numbers afterOne) 1; stated = pos 5_534_729 }
+    ∷ record { given = fundOf (numbers inThirds) 1; stated = pos 5_534_717 }
+    ∷ record { given = fundOf (numbers afterFive) 1; stated = pos 5_534_728 }
+    ∷ record { given = pos (boundOf (numbers inThirds) 1); stated = pos 64 }
+    ∷ record { given = exactFund (numbers afterOne) 1; stated = pos (55_347_302_975 * 10 ^ 68) }
+    ∷ record { given = exactFund (numbers inThirds) 1; stated = pos (55_347_302_975 * 10 ^ 68) }
+    ∷ record { given = exactFund (numbers afterFive) 1; stated = pos (55_347_302_975 * 10 ^ 68) }
+    ∷ record { given = levelFund (numbers inThirds) (pos 50_000); stated = pos (55_347_302_975 * 10 ^ 68) }
+    ∷ record { given = fundOf (numbers afterOne) 2; stated = negsuc 3_291_177 }
+    ∷ record { given = fundOf (numbers inThirds) 2; stated = negsuc 1_249_265 }
+    ∷ record { given = fundOf (numbers afterFive) 2; stated = pos 3_906_474 }
+    ∷ record { given = fundOf (numbers costedThirds) 1; stated = pos 5_534_720 }
+    ∷ record { given = pos (boundOf (numbers costedThirds) 1); stated = pos 65 }
+    ∷ record { given = exactFund (numbers costedThirds) 1; stated = pos (55_347_332_975 * 10 ^ 68) }
+    ∷ record { given = levelFund (numbers costedThirds) (pos 50_000); stated = pos (55_347_332_975 * 10 ^ 68) }
     ∷ []

@@ -14,6 +14,7 @@ ghost use lib.IntN.{pos};
 ghost use Rattle.whole.specs.Range.{limit, Between, Within};
 ghost use Rattle.whole.specs.Test.{pick};
 ghost use Rattle.reckoning.specs.Arrays.{ratesOf, Rates};
+ghost use Rattle.reckoning.specs.Level.{LevelEveryYear};
 ghost use Rattle.plan.specs.Held.{PlainHeld, held};
 ghost use Rattle.plan.specs.Numbers.{numbers};
 ghost use Rattle.plan.specs.Refusal.{Accepted};
@@ -22,6 +23,7 @@ ghost use Rattle.planner.specs.Calls.{callRefusal, fundAnswer, boundAnsw
 ghost use Rattle.planner.specs.Verdict.{short, wordOf, bitsOf, noPatternRow, planWordOf, verdictAnswer, judgementOf};
 ghost use Rattle.planner.specs.Rows.{refusedRow, rowReckoned, noJudgement, verdictOf};
 ghost use Rattle.planner.specs.Demand3.{FundNear, FormNear, VerdictTrue};
+ghost use Rattle.planner.specs.Level.{LevelTrue};
 ghost use Rattle.planner.specs.Plain.{PlainFlow, PlainHorizon, Plain};
 ghost use Rattle.planner.specs.Alike.{Alike};
 
@@ -50,10 +52,13 @@ fn call_refusal(plan: Plan, t: usize) -> u8
     0
 }
 
-// The fund of the plan's allocation in pattern t, which counts from 1; 0 on a refusal: 3, 6 to 11 or 13.
+// The fund of the plan's allocation in pattern t, which counts from 1; 0 on a refusal: 3, 6 to 11 or 13. At level rates another rollover
+// moves it by less than the bound.
 pub fn fund(plan: Plan, t: usize) -> Reckoned
     ensures is { λ s. ⌜ s ≡ fundAnswer (numbers plan) t ⌝ }
     ensures near { λ s. ⌜ FundNear (numbers plan) t s ⌝ }
+    ensures level { λ s. ⌜ LevelTrue plan t s ⌝ }
+    ensures theorem { λ _. ⌜ LevelEveryYear ⌝ }
 {
     let no = call_refusal(plan, t);
     if no != 0 {

@@ -1,5 +1,6 @@
 -- The laws behind the contracts, and the theorem between the reckoned and the exact fund: Theorem states it; Outstanding, Errors
--- and Horizon prove it for the fund, Linear and Form for the form. Pattern and the files of loops are the code's.
+-- and Horizon prove it for the fund, Linear and Form for the form. Level has the exact fund at level rates. Pattern and the files of loops
+-- are the code's.
 pub mod Recursion
 pub mod Case
 pub mod Powers
@@ -11,6 +12,7 @@ pub mod Horizon
 pub mod Linear
 pub mod Form
 pub mod Theorem
+pub mod Level
 pub mod Pattern
 pub mod CellLoops
 pub mod BoundLoops

@@ -6,7 +6,7 @@ use Rattle.patterns.specs.Pattern.{flowReckoned}
 use Rattle.patterns.proofs.Held.{rates-ready, rates-are, prepared-is, shared-is}
 use Rattle.planner.specs.Calls.{noFund, callRefusal, fundAnswer}
 use Rattle.planner.proofs.Answers.{Called, called, out-refused, out-accepted}
-use Rattle.planner.proofs.Demand3.{fund-answered}
+use Rattle.planner.proofs.Level.{fund-answered}
 use Rattle.planner.proofs.fund.Statement.{statement}
 use Rattle.planner.proofs.fund.Tie as tie
 
