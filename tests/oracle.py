@@ -1,6 +1,6 @@
 """Document 01, with the money already invested, the rising and falling rates, the cash account, the search for an allocation and the cost
 left at the horizon of document 02, in unbounded whole numbers: what a plan file is read as, what each call answers, what the program
-prints. The exact account of the cash is in fractions.
+prints. The exact account of the cash is in fractions, and so is the closed form of the exact fund where all rates of a pattern are equal.
 
 Written from the papers alone. It is slow and plain on purpose: every sum is the paper's sum, and nothing is cut short but a search over many
 allocations (`solvents`).
@@ -323,15 +323,51 @@ def uncut(plan):
     return {k: sum(plan.a(k, j) * plan.p(j) for j in instruments(plan)) + MILLION * (plan.b(k) - plan.o(k)) for k in years(plan)}
 
 
-def exact(plan, t):
-    """H, with the cost inside: the exact fund is H / 10^(12 N)."""
+def exact_cells(plan, t):
+    """E_2 to E_(N+1)."""
     x = uncut(plan)
     E, i = {}, plan.i(t)
     for k in range(2, plan.N + 2):
         E[k] = x[k - 1] * 10 ** (12 * (k - 2)) + sum(
             E[l] * (MILLION * plan.r(k - l) + i[l] * w(plan, k - l - 1)) * 10 ** (12 * (k - l - 1)) for l in range(2, k))
+    return E
+
+
+def exact_left(plan, E):
+    """H of cells, with the cost inside: the exact fund is H / 10^(12 N)."""
     H = sum(E[k] * w(plan, plan.N + 1 - k) * 10 ** (12 * (plan.N + 1 - k)) for k in range(2, plan.N + 2))
     return H + uncut_cost(plan) * 10 ** (12 * plan.N - 6)
+
+
+def exact(plan, t):
+    """H."""
+    return exact_left(plan, exact_cells(plan, t))
+
+
+def exact_fund(plan, E):
+    """H / 10^(12 N), of cells."""
+    return Fraction(exact_left(plan, E), 10 ** (12 * plan.N))
+
+
+# ---- level rates
+
+
+def level(plan, t):
+    """Whether all rates of a pattern are equal: those that it lists, or those that it means if it is a slope. With N = 1 there are none,
+    and it is level."""
+    return len(set(plan.i(t).values())) <= 1
+
+
+def level_fund(plan, t):
+    """The exact fund in a level pattern, by the closed form: every net flow grows to the horizon at the one rate, nothing is cut off, and
+    the cost is inside. The rollover has no part in it."""
+    x, grown = uncut(plan), 1 + Fraction(plan.i(t).get(2, 0), MILLION)
+    return sum(Fraction(x[k], MILLION) * grown ** (plan.N - k) for k in years(plan)) + Fraction(uncut_cost(plan), MILLION)
+
+
+def rolled(plan, rollover):
+    """The plan with another rollover."""
+    return Plan(plan.payments, plan.outflows, rollover, plan.patterns, plan.allocation, plan.opening, plan.cost)
 
 
 # ---- bound, form, gammas, verdict
