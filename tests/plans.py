@@ -1,4 +1,5 @@
-"""Plans from a seed, damaged files, lists of rates and plans for cash accounts, and plans to find an allocation for.
+"""Plans from a seed, damaged files, lists of rates and plans for cash accounts, plans to find an allocation for, and plans with level patterns
+and rollovers for them.
 
 Sizes go over all of N, n, q and m; notes are plain or odd; half of the plans hold an opening, and half a cost; outflows are matched to
 the flow and to what is left at the horizon, so that funds lie within a few units of zero and loans roll into loans to the last year; rates
@@ -6,7 +7,8 @@ are level, rising or wild, and are listed, meant by slopes, or some the one and 
 lie at the ends of their ranges, its start and step at those of 32 bits, and cells and funds at 10^12 and one past it, on both sides of
 zero, some by the cost alone. Lists are right, or fail one check or more; accounts lie near zero in the last year or in most years, change
 sides often, and come to 10^12 and one past it. Of the allocations that a search goes through one is good, by nothing or by little, or some,
-all or none are; and some, or all, are refused 11.
+all or none are; and some, or all, are refused 11. A pattern is level in every way that one can be, and the fund in it is refused 11 at one
+rollover and taken at another, or lies as far apart at two rollovers as the cuts can bring it.
 """
 import math
 import struct
@@ -842,3 +844,159 @@ SEARCHES = {among_rivals: 4, among_twins: 2, among_any: 2, some_of_each: 2, cuts
 def search(rng):
     """A plan and a number of parts of one of these kinds."""
     return rng.choices(list(SEARCHES), SEARCHES.values())[0](rng)
+
+
+# ---- level patterns, and rollovers
+
+
+def level_rate(rng):
+    return rng.choice([0, 0, 1, rng.randint(1, 100), 50000, TOP - 1, TOP, TOP, rng.randint(0, TOP), rng.randint(0, TOP)])
+
+
+def level_pattern(rng, N, rate):
+    """A pattern whose rates are all this one: it lists them, or is a slope of step 0, or one of another step whose T is 1 or 2. Of one year
+    there are no rates, and of two there is one, of which any slope is level."""
+    kind = rng.randint(1, 4)
+    if kind == 1:
+        return [rate] * (N - 1)
+    if N == 1:
+        return slope(rng, N)
+    if kind == 2:
+        return oracle.Slope(rate, 0, rng.randint(1, 30))
+    if kind == 3:
+        return oracle.Slope(rate, any_32(rng) or 1, 1)
+    step = rng.choice([1, -1, rng.randint(-TOP, TOP), MOST_32]) or 1
+    return oracle.Slope(rate - step, step, rng.randint(2, 30) if N == 2 else 2)
+
+
+def beside_level(rng, N, rate):
+    """Patterns of which one is level at this rate; others are level too, or not."""
+    found = [rng.choice([pattern(rng, N), slope(rng, N), level_pattern(rng, N, level_rate(rng))]) for _ in range(rng.choice([0, 1, 1, 2]))]
+    found.insert(rng.randint(0, len(found)), level_pattern(rng, N, rate))
+    return found
+
+
+def rollover(rng, N):
+    """Shares of 1 to 30 terms, of as many as the plan has years or of more: one year only, all at the end, equal parts, any parts, or any
+    parts with zeros between."""
+    q = rng.choice([N, min(30, N + 1), 30, rng.randint(1, 30), rng.randint(1, N)])
+    kind = rng.randint(1, 5)
+    if kind == 1:
+        return [oracle.MILLION] + [0] * rng.choice([0, q - 1])
+    if kind == 2:
+        return [0] * (q - 1) + [oracle.MILLION]
+    if kind == 3:
+        each = oracle.MILLION // q
+        shares = [each] * (q - 1) + [oracle.MILLION - each * (q - 1)]
+        return rng.choice([shares, shares[::-1]])
+    if kind == 4:
+        return parts(rng, q)
+    places = sorted({q - 1, *(rng.randrange(q) for _ in range(rng.randint(1, 4)))})
+    shares = dict(zip(places, parts(rng, len(places))))
+    return [shares.get(at, 0) for at in range(q)]
+
+
+def rollovers(rng, plan, count):
+    """So many different rollovers for a plan: its own, one year only, all after thirty years, and others."""
+    found = [plan.rollover]
+    for one in [oracle.MILLION], [0] * 29 + [oracle.MILLION]:
+        if one not in found:
+            found.append(one)
+    while len(found) < count:
+        one = rollover(rng, plan.N)
+        if one not in found:
+            found.append(one)
+    return found
+
+
+def any_level(rng):
+    """Any amounts, in one year, in two or in more; now and then nothing in the first years."""
+    N = rng.choice([1, 2, 30, size(rng, 30), size(rng, 30), rng.randint(3, 30)])
+    top, n = rng.choice([1, 10, 10 ** 6, 10 ** 9, MOST]), rng.randint(1, 4)
+    outflows = [rng.choice([0, rng.randint(-top, top)]) for _ in range(N)]
+    plan = oracle.Plan([note(rng, N) for _ in range(n)], outflows, rollover(rng, N), beside_level(rng, N, level_rate(rng)), parts(rng, n),
+                       opening(rng, N), cost(rng, n))
+    first = rng.randint(0, N) if rng.random() < 0.15 else 0
+    for row in [*plan.payments, plan.outflows, plan.opening or []]:
+        row[:first] = [0] * min(first, len(row))
+    return plan
+
+
+def bare(rng, shares, rates, N):
+    """A plan of N years with one to three instruments that pay nothing."""
+    n = rng.randint(1, 3)
+    return oracle.Plan([[0] * N] * n, [0] * N, shares, rates, parts(rng, n), cost=cost(rng, n))
+
+
+def paying(rng, plan, flow):
+    """The plan with payments and outflows of which its flow is this one, whatever is cut off it. What comes in beside the outflows is as
+    little or as much as their range allows, or anything between; a part of it is an opening where instruments cannot pay it all, or as often
+    as not."""
+    room, kind = MOST - 1000, rng.randint(1, 3)
+    income = []
+    for x in flow:
+        low, high = max(0, x - room), min(2 * room, x + room)
+        income.append(low if kind == 1 else high if kind == 2 else rng.randint(low, high))
+    older = [rng.randint(max(0, one - MOST), min(MOST, one)) for one in income]
+    if max(income) <= MOST and rng.random() < 0.5:
+        older = [0] * plan.N
+    plan.opening = older if any(older) else None
+    plan.payments = [[max(0, one - old - rng.randint(0, 1000)) for one, old in zip(income, older)] for _ in plan.payments]
+    plan.outflows = [came - x for came, x in zip(oracle.flow(plan).values(), flow)]
+    return plan
+
+
+def cuts_apart_when_level(rng):
+    """With its own rollover the cuts take off as much as they can, and with that of one year little. Every cell is the same small debt. In
+    each later year but the next the three cuts, of what is rolled over, of what is left and of the interest on that, take off nearly 1 each:
+    next to nothing is rolled over, what is left is just above debt - 1, and the interest on `debt` just above `owed`."""
+    N, owed = rng.choice([30, 30, some_years(rng)]), rng.choice([1, 1, 2, 3])
+    debt = rng.randint(5 * owed + 1, 60)
+    rate, left = oracle.MILLION * owed // debt + 1, oracle.MILLION * (debt - 1) // debt + N
+    shares = [oracle.MILLION - left] + [1] * (N - 2) + [left - (N - 2)]
+    flow, remains = [-debt], oracle.MILLION
+    for share in shares[:-1]:
+        flow.append(flow[-1] - oracle.share(-debt, share) - oracle.share(oracle.share(-debt, remains), rate))
+        remains -= share
+    return paying(rng, bare(rng, shares, beside_level(rng, N, rate), N), flow)
+
+
+def grown(rate, N):
+    """What 1 in each year comes to in year N."""
+    return sum((1 + rate / oracle.MILLION) ** k for k in range(N))
+
+
+def ends_at_the_limit(rng):
+    """The fund in a level pattern is so near to the limit, above zero or below, that it is within it or past it by the rollover."""
+    sign, N, rate = rng.choice([1, -1]), 0, 0
+    while grown(rate, N) < {1: 18, -1: 52}[sign]:
+        N, rate = rng.randint(9, 30), level_rate(rng)
+    plan = bare(rng, rollover(rng, N), beside_level(rng, N, rate), N)
+    level = oracle.Plan(plan.payments, plan.outflows, plan.rollover, [[rate] * (N - 1)], plan.allocation, cost=plan.cost)
+    wanted = sign * oracle.LIMIT + rng.randint(0, oracle.bound(level, 1) // 2)
+    step = int((wanted - oracle.cost_of(plan)) / grown(rate, N))
+    level.outflows = [-step] * N
+    last = step + math.ceil(wanted - oracle.level_fund(level, 1))
+    return paying(rng, plan, [step] * (N - 1) + [last])
+
+
+def passes_the_limit_between(rng):
+    """All that is held together passes the limit in a year between, above zero or below, and is within it again at the end: with a rollover
+    of one year a cell passes it, and with a longer one as a rule none does."""
+    sign = rng.choice([1, -1])
+    rate, enough, back = (rng.randint(0, 15000), 18, 19 * 10 ** 9) if sign > 0 else (rng.randint(42000, 55000), 51, -59 * 10 ** 9)
+    first = next(year for year in range(1, 30) if grown(rate, year) >= enough)
+    at = rng.randint(first, 29)
+    N = rng.randint(at + 1, 30)
+    step = int(sign * (oracle.LIMIT + rng.choice([10, 10 ** 6, rng.randint(1, 3 * 10 ** 9)])) / grown(rate, at)) + sign
+    return paying(rng, bare(rng, rollover(rng, N), beside_level(rng, N, rate), N), [step] * at + [-back] * (N - at))
+
+
+# The kinds of plans with a level pattern, and how many there are of each.
+LEVELS = {any_level: 5, cuts_apart_when_level: 2, ends_at_the_limit: 2, passes_the_limit_between: 1}
+
+
+def level_plan(rng):
+    """A kind, and a plan of that kind; one of its patterns is level, or more are."""
+    kind = rng.choices(list(LEVELS), LEVELS.values())[0]
+    return kind, kind(rng)
