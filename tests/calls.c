@@ -1,6 +1,6 @@
-/* The driver of tests/calls: takes requests from standard input, makes every call of planner.h on each, or only that for the cash
- * account or that for an allocation, and prints what it got, a line a call. A request is struct request as it stands, then the bytes of
- * the file, the lending rates and the borrowing rates.
+/* The driver of tests/calls and tests/level: takes requests from standard input, makes every call of planner.h on each, or only that for
+ * the cash account, that for an allocation or those for the fund and the bound, and prints what it got, a line a call. A request is struct
+ * request as it stands, then the bytes of the file, the lending rates and the borrowing rates.
  *
  * What is lent to be read ends where memory ends, so that reading past it stops the driver. What is lent to be filled lies between
  * guards; it and they hold known bytes before the call. A line ends in ` guards` if one of these changed, and in ` lent` if what
@@ -22,7 +22,7 @@ enum {
     SECONDS = 20 /* for all calls of a request */
 };
 
-enum only { EVERY_CALL, ONLY_CASH, ONLY_FIND };
+enum only { EVERY_CALL, ONLY_CASH, ONLY_FIND, ONLY_AMOUNTS };
 
 struct request {
     uint64_t file_length, lending_length, borrowing_length, only, pattern, parts, room, fill;
@@ -326,21 +326,26 @@ int main(void)
         take(bytes, 1, request.file_length, sizeof bytes);
         take(lending, sizeof *lending, request.lending_length, LIST);
         take(borrowing, sizeof *borrowing, request.borrowing_length, LIST);
+        int every = request.only == EVERY_CALL;
         alarm(SECONDS);
-        if (request.only == EVERY_CALL) {
+        if (every) {
             call_read(bytes);
             call_write();
             call_again(bytes);
+        }
+        if (every || request.only == ONLY_AMOUNTS) {
             call_amount("fund", planner_fund, bytes);
             call_amount("bound", planner_bound, bytes);
+        }
+        if (every) {
             call_form(bytes);
             call_gammas(bytes);
             call_verdict(bytes);
             call_list(bytes);
         }
-        if (request.only != ONLY_FIND)
+        if (every || request.only == ONLY_CASH)
             call_cash(bytes, lending, borrowing);
-        if (request.only != ONLY_CASH)
+        if (every || request.only == ONLY_FIND)
             call_find(bytes);
         fflush(stdout);
         alarm(0);
