@@ -1,12 +1,15 @@
-/* planner_list, planner_cash and planner_find on any bytes. What must hold, or the program aborts: the listing is at most
- * PLANNER_LISTING_BYTES long, nothing is changed after it, around the buffer or in the file, nothing is read or written outside what is
- * lent, the text has the form of a listing, and the same file gives the same text again. The cash account is refused as the listing and
- * the two lists of rates say, and then its numbers are 0; else the account and the bound are in their ranges, and the word is theirs; the
- * file, the lists and what is around the three numbers are unchanged, and the same file and lists give the same answer again. The search
- * is refused as the listing, but for 11, and the number of parts and n say, and then its numbers are 0, as they are where nothing is
- * found; what is found lies on the grid, and the file with it in the place of the allocation is listed as solvent; with the allocations
- * before it, or with all where nothing is found, it is not: of these the plan's own is tried, if it is one, the one right before, and
- * about eight more. The file and what is around the answer are unchanged, and the same file and number give the same answer again.
+/* planner_list, planner_cash and planner_find on any bytes, and planner_fund and planner_bound on plans with a level pattern. What must hold,
+ * or the program aborts: the listing is at most PLANNER_LISTING_BYTES long, nothing is changed after it, around the buffer or in the file,
+ * nothing is read or written outside what is lent, the text has the form of a listing, and the same file gives the same text again. The cash
+ * account is refused as the listing and the two lists of rates say, and then its numbers are 0; else the account and the bound are in their
+ * ranges, and the word is theirs; the file, the lists and what is around the three numbers are unchanged, and the same file and lists give the
+ * same answer again. The search is refused as the listing, but for 11, and the number of parts and n say, and then its numbers are 0, as they
+ * are where nothing is found; what is found lies on the grid, and the file with it in the place of the allocation is listed as solvent; with
+ * the allocations before it, or with all where nothing is found, it is not: of these the plan's own is tried, if it is one, the one right
+ * before, and about eight more. The file and what is around the answer are unchanged, and the same file and number give the same answer again.
+ * A plan with a pattern whose rates are all equal, those that a slope means, is written again with another rollover: all after one year, or,
+ * where that is its own, all after thirty. In each such pattern the two plans have the same bound, and their funds are less than that apart,
+ * if neither is refused 11.
  *
  * An input is a plan file, and the two lists of rates are made from it. Lending rates are those of its first pattern that lists them,
  * borrowing rates those of its last if it has two such, raised to the lending rate where they are below it. What is still missing is
@@ -455,6 +458,87 @@ static size_t check_finding(const struct finding *said, int listed, const uint8_
     return refusal == 0 ? place_of(said, data, size) : 0;
 }
 
+/* ---- level patterns */
+
+/* Of a pattern's rates, that of year k, from 2 on. */
+static int64_t rate_of(const struct planner_plan *plan, size_t t, size_t k)
+{
+    size_t steps = (k < plan->until[t] ? k : plan->until[t]) - 1;
+    return plan->sloped[t] ? plan->start[t] + (int64_t)steps * plan->step[t] : plan->rates[t][k - 2];
+}
+
+static int is_level(const struct planner_plan *plan, size_t t)
+{
+    size_t k = 3;
+    while (k <= plan->years && rate_of(plan, t, k) == rate_of(plan, t, 2))
+        k++;
+    return k > plan->years;
+}
+
+typedef uint8_t amount_call(const uint8_t *file, size_t file_length, size_t pattern, int64_t *amount);
+
+struct amount {
+    int64_t refusal, is;
+};
+
+static struct amount ask(amount_call *call, const uint8_t *data, size_t size, size_t pattern, enum place place)
+{
+    const uint8_t *file = lend(FILE_BYTES, data, size, place);
+    int64_t *amount = lend(ACCOUNT, NULL, 8, place);
+    struct amount said;
+    said.refusal = call(file, size, pattern, amount);
+    said.is = *amount;
+    take_back(FILE_BYTES, place);
+    take_back(ACCOUNT, place);
+    must(said.refusal == 0 || said.is == 0, "an amount of a refusal is not 0");
+    return said;
+}
+
+/* What the level patterns of a file came to. */
+struct level {
+    size_t patterns, pairs; /* how many there are, and in how many both funds are taken */
+    int64_t apart, bound;   /* the two funds that are farthest apart, as a part of their bound */
+};
+
+/* The funds of a level pattern of two files that differ in the rollover. */
+static void compare(struct level *level, const uint8_t *data, size_t size, const uint8_t *other, size_t other_size, size_t pattern, int listed)
+{
+    struct amount fund = ask(planner_fund, data, size, pattern, NO_ROOM), second = ask(planner_fund, other, other_size, pattern, EARLY);
+    struct amount bound = ask(planner_bound, data, size, pattern, LATE), again = ask(planner_bound, other, other_size, pattern, NO_ROOM);
+    must(fund.refusal == 0 || (fund.refusal == 11 && listed == 11), "a fund is refused in another way than the listing");
+    must(second.refusal == 0 || second.refusal == 11, "a fund with another rollover is refused in another way");
+    must(bound.refusal == 0 && again.refusal == 0 && bound.is == again.is, "the bound of a level pattern is another with another rollover");
+    level->patterns++;
+    if (fund.refusal == 0 && second.refusal == 0) {
+        int64_t apart = fund.is < second.is ? second.is - fund.is : fund.is - second.is;
+        must(apart < bound.is, "the funds of a level pattern at two rollovers are as far apart as the bound");
+        if (level->pairs++ == 0 || apart * level->bound > level->apart * bound.is) {
+            level->apart = apart;
+            level->bound = bound.is;
+        }
+    }
+}
+
+/* Every level pattern of a file, beside the same plan with another rollover. */
+static struct level level_of(const uint8_t *data, size_t size, int listed)
+{
+    static struct planner_plan plan;
+    static uint8_t other[PLANNER_FILE_BYTES];
+    struct level level = {0};
+    size_t other_size;
+    if (listed != 0 && listed != 11)
+        return level;
+    must(planner_read_plan(data, size, &plan) == 0, "a file that was listed is not read");
+    plan.terms = plan.rollover[0] == MILLION ? PLANNER_TERMS : 1;
+    memset(plan.rollover, 0, sizeof plan.rollover);
+    plan.rollover[plan.terms - 1] = MILLION;
+    must(planner_write_plan(&plan, other, sizeof other, &other_size) == 0, "a plan that was read is not written");
+    for (size_t t = 0; t < plan.patterns; t++)
+        if (is_level(&plan, t))
+            compare(&level, data, size, other, other_size, t + 1, listed);
+    return level;
+}
+
 /* ---- one input */
 
 struct result {
@@ -462,6 +546,7 @@ struct result {
     struct answer account;
     struct finding finding;
     size_t place; /* of what is found */
+    struct level level;
 };
 
 static struct result one_input(const uint8_t *data, size_t size)
@@ -482,12 +567,14 @@ static struct result one_input(const uint8_t *data, size_t size)
     must(memcmp(&second, &result.finding, sizeof second) == 0, "the second answer of the search is another");
     must(memcmp(&third, &result.finding, sizeof third) == 0, "the third answer of the search is another");
     result.place = check_finding(&result.finding, result.listed, data, size);
+    result.level = level_of(data, size, result.listed);
     return result;
 }
 
 #ifdef REPLAY
 
 static int accounts, found;
+static size_t levels, pairs;
 
 static void replay(FILE *from, const char *name)
 {
@@ -501,6 +588,8 @@ static void replay(FILE *from, const char *name)
     struct result result = one_input(data, size);
     accounts += result.account.refusal == 0;
     found += result.place > 0;
+    levels += result.level.patterns;
+    pairs += result.level.pairs;
 }
 
 int main(int argc, char **argv)
@@ -515,7 +604,8 @@ int main(int argc, char **argv)
         }
         replay(from, argv[k]);
     }
-    printf("%d files, %d cash accounts, %d allocations found\n", argc == 1 ? 1 : argc - 1, accounts, found);
+    printf("%d files, %d cash accounts, %d allocations found, %zu level patterns, %zu of them with funds at both rollovers\n",
+           argc == 1 ? 1 : argc - 1, accounts, found, levels, pairs);
     return 0;
 }
 
@@ -526,7 +616,7 @@ int main(int argc, char **argv)
 enum { BLOCKS = 1 << 14, BREAKPOINT = 0xcc };
 
 /* What libFuzzer looks at after each input: a counter for each block, for which was reached after which, and for what the plan, its
- * listing, its cash account and the search are like. */
+ * listing, its cash account, the search and its level patterns are like. */
 #define COUNTERS __attribute__((section("__libfuzzer_extra_counters"))) static volatile uint8_t
 COUNTERS reached[BLOCKS];
 COUNTERS after[BLOCKS];
@@ -537,6 +627,7 @@ static struct {
     int ever;           /* whether any input has reached it */
 } blocks[BLOCKS];
 static size_t block_count, hits[BLOCKS], hit_count, plan_count, account_counts[4];
+static struct level levels; /* of all inputs */
 
 /* How a search can end. */
 enum { NOTHING, FIRST, BETWEEN, LAST, ENDS };
@@ -574,6 +665,8 @@ static void say_coverage(void)
             account_counts[PLANNER_SHORT], account_counts[PLANNER_CLOSE]);
     fprintf(stderr, "stat::searches:                 %zu found at the first place, %zu between, %zu at the last, %zu nothing\n",
             end_counts[FIRST], end_counts[BETWEEN], end_counts[LAST], end_counts[NOTHING]);
+    fprintf(stderr, "stat::level_patterns:           %zu, %zu with funds at both rollovers, at most %lld of a bound of %lld apart\n",
+            levels.patterns, levels.pairs, (long long)levels.apart, (long long)levels.bound);
     fprintf(stderr, "stat::library_blocks_reached:   %zu of %zu\n", ever, block_count);
 }
 
@@ -599,6 +692,21 @@ int LLVMFuzzerInitialize(int *argc, char ***argv)
     }
     atexit(say_coverage);
     return 0;
+}
+
+static void look_at_level(const struct level *level)
+{
+    if (level->patterns > level->pairs)
+        like[712] = 1;
+    if (level->pairs > 0) {
+        like[713 + 32 * level->apart / level->bound] = 1; /* how far apart, in parts of the bound */
+        if (levels.pairs == 0 || level->apart * levels.bound > levels.apart * level->bound) {
+            levels.apart = level->apart;
+            levels.bound = level->bound;
+        }
+    }
+    levels.patterns += level->patterns;
+    levels.pairs += level->pairs;
 }
 
 int LLVMFuzzerTestOneInput(const uint8_t *data, size_t size)
@@ -627,6 +735,7 @@ int LLVMFuzzerTestOneInput(const uint8_t *data, size_t size)
     if (refusal == 0)
         for (size_t k = 0; k < 4; k++)
             like[64 + 64 * k + data[4 + k]] = 1; /* N, n, q, m */
+    look_at_level(&result.level);
     return 0;
 }
 
