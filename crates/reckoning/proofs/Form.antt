@@ -1,5 +1,5 @@
--- The linear form. A flow of whole amounts is its own floor, and the exact fund is linear in the flow and in what is left. Where every coefficient and the
--- constant are bracketed by c and b, the form's value is bracketed by 2 c and 2 b + 1, since the shares p come to 10^6.
+-- The linear form. A flow of whole amounts is its own floor, and the exact fund is linear in the flow and in what is left. Where every
+-- coefficient and the constant are bracketed by c and b, the form's value is bracketed by 2 c and 2 b + 1, since the shares p come to 10^6.
 use mathlib.Core.Path.{_≡_, refl, sym, ap, ap₂, _∙_, subst, fun-ext}
 use Prim.Native.Nat.{ℕ, suc, _+_, _-_, _*_, _^_}
 use native.Mathlib.Nat.{mul-le-mul-right, le-of-lt}
