@@ -61,7 +61,7 @@ module _ (plan other : Plan) (t : ℕ) (pair : LevelPair (numbers plan) (numbers
   one-horizon = ap (λ (R : Numbers). R .years) (sym (pair .others))
 
   -- two numbers, each below its exact fund by less than its bound
-  pub pair-apart : {y z : ℤ} → FromBelow (P .years) (exactFund P t) y (boundOf P t) → FromBelow (Q .years) (exactFund Q t) z (boundOf Q t) → natAbs (y -ℤ z) < boundOf P t
+  pair-apart : {y z : ℤ} → FromBelow (P .years) (exactFund P t) y (boundOf P t) → FromBelow (Q .years) (exactFund Q t) z (boundOf Q t) → natAbs (y -ℤ z) < boundOf P t
   pair-apart {y} {z} k l = below-apart k (rw (one-exact, one-bound, one-horizon) at l)
 
 -- the fund's call
