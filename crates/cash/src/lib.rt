@@ -1,5 +1,6 @@
 // The cash account with two rates: an operator lends what is left over and borrows what is missing. Place 0 of a list of rates is year 2,
 // of a flow year 1.
+#![tactic(auto)]
 ghost use Rattle.std.specs.Prelude.{◌≡◌, ◌≤◌, length, get_or, pos};
 ghost use Rattle.whole.specs.Range.{million, limit, Between, Within};
 ghost use Rattle.whole.specs.Table.{table};
@@ -17,7 +18,7 @@ ghost use Rattle.cash.specs.Arrays.{Padded, account_reckoned};
 use plan::Plan;
 
 // The account at the end of the last year, its bound and its word; zeros on a refusal.
-#[derive(Drop)]
+#[derive(Clone, Copy)]
 pub struct CashAnswer {
     pub refusal: u8,
     pub account: i64,
@@ -26,7 +27,7 @@ pub struct CashAnswer {
 }
 
 // The account alone.
-#[derive(Drop)]
+#[derive(Clone, Copy)]
 pub struct AccountAnswer {
     pub refusal: u8,
     pub amount: i64,

@@ -1,4 +1,5 @@
 // The search for an allocation whose verdict is solvent, instrument by instrument over the parts still to be placed.
+#![tactic(auto)]
 ghost use Rattle.std.specs.Prelude.{◌≡◌, true, [], ℕ, ◌+◌, ◌≤◌, ◌<◌, get_or, set, replicate, pos};
 ghost use Rattle.whole.specs.Range.{million};
 ghost use Rattle.whole.specs.Sum.{sum_ℕ};
@@ -20,7 +21,7 @@ use patterns::Common;
 use plan::{Plan, Shape};
 
 // An allocation that was found; where there is none, and on a refusal, zeros.
-#[derive(Drop)]
+#[derive(Clone, Copy)]
 pub struct FindAnswer {
     pub refusal: u8,
     pub found: bool,
@@ -28,7 +29,7 @@ pub struct FindAnswer {
 }
 
 // What a branch of the search comes to: four shares, which are those that were found where one is.
-#[derive(Drop)]
+#[derive(Clone, Copy)]
 struct Split {
     found: bool,
     shares: [u32; 4],

@@ -1,4 +1,5 @@
 // A plan in one pattern: the arrays that all patterns share, the fund, K and Q, the bound and the form.
+#![tactic(auto)]
 ghost use Rattle.std.specs.Prelude.{◌≡◌, true, ◌+◌, ◌≤◌, ◌<◌, get_or, pos, ◌*ℤ◌};
 ghost use Rattle.whole.specs.Range.{limit, Between, Within};
 ghost use Rattle.whole.specs.Sum.{sum};
@@ -13,7 +14,7 @@ ghost use Rattle.patterns.specs.Arrays.{rollover_array, rates_array, constant_ar
 use plan::Plan;
 use reckoning::Reckoned;
 
-#[derive(Drop)]
+#[derive(Clone, Copy)]
 pub struct FormAnswer {
     pub refusal: u8,
     pub coefficients: [i64; 16],
@@ -24,7 +25,7 @@ pub struct FormAnswer {
 // What all patterns of a plan share, beside the payments: N, n and q, the allocation (what stands past n plays no part), the
 // rollover and its weights, the flow of Q, whether the cost at the horizon is held, and that of each instrument (what stands there plays no
 // part where it is not held, nor past n).
-#[derive(Drop)]
+#[derive(Clone, Copy)]
 pub struct Common {
     pub years: usize,
     pub instruments: usize,
@@ -38,7 +39,7 @@ pub struct Common {
 }
 
 // What `coefficients_of` answers: K_1 to K_n.
-#[derive(Drop)]
+#[derive(Clone, Copy)]
 pub struct Coefficients {
     pub refusal: u8,
     pub values: [i64; 16],

@@ -1,4 +1,5 @@
 // The plan held as values, what it means in arrays, and the checks that refuse it.
+#![tactic(auto)]
 ghost use Rattle.std.specs.Prelude.{◌≡◌, true, ◌+◌, ◌-◌, ◌≤◌, min, length, get_or, pos};
 ghost use Rattle.whole.specs.Sum.{sum_ℕ};
 ghost use Rattle.whole.specs.Test.{pick, all, is_from, is_between};
@@ -8,7 +9,7 @@ ghost use Rattle.plan.specs.Numbers.{payments_meant, slope, rates_meant, numbers
 ghost use Rattle.plan.specs.Refusal.{Head, shape_ok, payments_ok, outflows_ok, opening_ok, cost_ok, amounts_ok, rollover_ok, untils_ok, rates_ok, allocation_ok, head_refusal, amounts_refusal, rates_refusal, allocation_refusal, refusal_of, refusal_with};
 
 // N, n, q and m, and which kinds are held that may be absent: what decides which records a plan file has.
-#[derive(Drop)]
+#[derive(Clone, Copy)]
 pub struct Shape {
     pub years: usize,
     pub instruments: usize,
@@ -19,7 +20,7 @@ pub struct Shape {
 }
 
 // The payments of one instrument per 1,000,000,000 put in, year after year.
-#[derive(Drop)]
+#[derive(Clone, Copy)]
 pub struct Instrument {
     pub payments: [i64; 30],
 }
@@ -27,7 +28,7 @@ pub struct Instrument {
 // A new-money pattern: its rates i_2, i_3 and on; or, where it is a slope, its start, its step and T, the year from which on it is level.
 // What it carries for the one that it is not plays no part, and `spare` never does: it fills the row up, so that a plan of zeros is one run
 // of zero bytes.
-#[derive(Drop)]
+#[derive(Clone, Copy)]
 pub struct Pattern {
     pub rates: [i32; 30],
     pub start: i32,
@@ -40,7 +41,7 @@ pub struct Pattern {
 // N, n, q and m, and the numbers that they count; what an array holds past them plays no part. `opened` says whether the plan holds
 // money already invested; where it does not, nothing in `opening` plays a part. `costed` says whether it holds what is left of each instrument
 // at the horizon, at cost per 1,000,000,000 put in; where it does not, nothing in `cost` does.
-#[derive(Drop)]
+#[derive(Clone, Copy)]
 pub struct Plan {
     pub years: usize,
     pub instruments: usize,

@@ -1,4 +1,5 @@
 // The format of a plan file: which records it has, in which order, and how long they are.
+#![tactic(auto)]
 ghost use Rattle.std.specs.Prelude.{◌≡◌};
 ghost use Rattle.planfile.specs.Kinds.{role_of, size_of};
 ghost use Rattle.planfile.specs.Groups.{groups_of, total, spot_at};
@@ -7,28 +8,28 @@ ghost use Rattle.planfile.specs.Reading.{InRange};
 use plan::{Plan, Shape};
 
 // What a file is read as: the number of the check that refuses it, or 0 and its plan.
-#[derive(Drop)]
+#[derive(Clone, Copy)]
 pub struct ReadAnswer {
     pub refusal: u8,
     pub plan: Plan,
 }
 
 // What is answered where a plan is to be written: the number of the check that refuses it, or 0 and the length of its file.
-#[derive(Drop)]
+#[derive(Clone, Copy)]
 pub struct WriteAnswer {
     pub refusal: u8,
     pub length: usize,
 }
 
 // So many records of one role, one after the other.
-#[derive(Drop)]
+#[derive(Clone, Copy)]
 pub struct Group {
     pub role: usize,
     pub count: usize,
 }
 
 // A record's role, and which of its group it is, counted from 0.
-#[derive(Drop)]
+#[derive(Clone, Copy)]
 pub struct Spot {
     pub role: usize,
     pub index: usize,

@@ -1,4 +1,5 @@
 // The calls open to callers. Each takes any plan and any pattern number, and its contract says the whole answer.
+#![tactic(auto)]
 ghost use Rattle.std.specs.Prelude.{◌≡◌, false, ◌≤◌, eqb, get_or, pos};
 ghost use Rattle.whole.specs.Range.{limit, Between, Within};
 ghost use Rattle.whole.specs.Test.{pick};
@@ -20,7 +21,7 @@ use patterns::{Common, FormAnswer};
 use plan::Plan;
 use reckoning::{GammaTable, Reckoned, Row};
 
-#[derive(Drop)]
+#[derive(Clone, Copy)]
 pub struct BoundAnswer {
     pub refusal: u8,
     pub bound: i64,
@@ -126,7 +127,7 @@ pub fn gammas(plan: Plan, t: usize) -> GammaTable
 // ---- the verdict
 
 // What one pattern comes to: its word, its fund and bound, K_1 to K_n and Q.
-#[derive(Drop)]
+#[derive(Clone, Copy)]
 pub struct PatternRow {
     pub word: u8,
     pub fund: i64,
@@ -135,14 +136,14 @@ pub struct PatternRow {
     pub constant: i64,
 }
 
-#[derive(Drop)]
+#[derive(Clone, Copy)]
 pub struct OneRow {
     pub refusal: u8,
     pub row: PatternRow,
 }
 
 // The word of every pattern; the short ones as bits, bit t - 1 for pattern t; the plan's word.
-#[derive(Drop)]
+#[derive(Clone, Copy)]
 pub struct VerdictAnswer {
     pub refusal: u8,
     pub words: [u8; 64],
@@ -151,7 +152,7 @@ pub struct VerdictAnswer {
 }
 
 // A verdict, and the rows that it was made of.
-#[derive(Drop)]
+#[derive(Clone, Copy)]
 pub struct Judgement {
     pub verdict: VerdictAnswer,
     pub rows: [PatternRow; 64],

@@ -1,4 +1,5 @@
 // Plan files, read into a plan held as values.
+#![tactic(auto)]
 ghost use Rattle.std.specs.Prelude.{◌≡◌, true, ◌*◌, ◌≤◌, pos, length, replicate};
 ghost use Rattle.records.specs.Cursor.{next_at, whole_file};
 ghost use Rattle.plan.specs.Held.{no_plan, plan_from};
@@ -17,7 +18,7 @@ use records::Next;
 // ---- the cursor
 
 // A file, and a place in it. A function over it takes it apart and leaves the work to one on the file and the place themselves.
-#[derive(Drop)]
+#[derive(Clone, Copy)]
 struct Reader<'a> {
     file: &'a [u8],
     at: usize,

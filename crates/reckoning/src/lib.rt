@@ -1,5 +1,7 @@
 // One flow in one pattern, on arrays of thirty. Place 0 of an array of shares is r_1, of rates i_2, of a flow year 1,
 // of weights w(0), of cells alpha_2.
+#![tactic(auto)]
+
 ghost use Rattle.std.specs.Prelude.{◌≡◌, ◌+◌, ◌-◌, ◌≤◌, get_or, pos, nat_abs, ◌+ℤ◌};
 ghost use Rattle.whole.specs.Range.{million, limit, Between, Within};
 ghost use Rattle.whole.specs.Floor.{share_of};
@@ -10,18 +12,18 @@ ghost use Rattle.reckoning.specs.Reckoning.{sent as sentOf, alpha};
 ghost use Rattle.reckoning.specs.Bound.{h as largestOf, B};
 ghost use Rattle.reckoning.specs.Arrays.{shares_of, rates_of, amounts_of, Years, Terms, Rates, Amounts, Ready, weights_of, Before, Invested, fund_reckoned, Joins, RowsBefore, gamma_row, gammas_reckoned};
 
-#[derive(Drop)]
+#[derive(Clone, Copy)]
 pub struct Reckoned {
     pub refusal: u8,
     pub fund: i64,
 }
 
-#[derive(Drop)]
+#[derive(Clone, Copy)]
 pub struct Row {
     pub values: [i64; 30],
 }
 
-#[derive(Drop)]
+#[derive(Clone, Copy)]
 pub struct GammaTable {
     pub refusal: u8,
     pub rows: [Row; 30],

@@ -1,11 +1,12 @@
 // Records taken off a file from its front.
+#![tactic(auto)]
 ghost use Rattle.std.specs.Prelude.{◌≡◌};
 ghost use Rattle.records.specs.Cursor.{next_at};
 
 // What stands at a place of a file: a whole record, by its kind and by the start and the end of its body, where the next place is;
 // or none, and how many bytes are left, which says why: 0 at the end of the file, 1 to 3 where the front of a record is cut off,
 // more where its body is.
-#[derive(Drop)]
+#[derive(Clone, Copy)]
 pub enum Next {
     Record {
         kind: usize,

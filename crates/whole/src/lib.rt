@@ -1,4 +1,6 @@
 // Shares of signed amounts. This is the one place of the project that divides an amount.
+#![tactic(auto)]
+
 ghost use Rattle.std.specs.Prelude.{◌≡◌};
 ghost use Rattle.whole.specs.Range.{million, limit, Within};
 ghost use Rattle.whole.specs.Floor.{floor, share_of};

@@ -1,5 +1,5 @@
 -- `whole::down` is the floor: the quotient toward zero, less one where it lies above.
-use native.Mathlib.Omega.{arith}
+use Rattle.std.proofs.Common.{arith}
 use lib.IntN.{ℤ, pos, ◌-ℤ◌, ◌*ℤ◌}
 use lib.Signed.{quot_z}
 use mir.Syntax.{w64}
@@ -9,11 +9,11 @@ use Rattle.whole.proofs.Bridge.{at, #, ◌⊕◌, ◌⊖◌, ◌⊗◌}
 use Rattle.whole.proofs.Test.{lt_true, lt_false}
 use Rattle.whole.proofs.Range.{within_quot, whole64, back}
 use Rattle.whole.proofs.Floor.{quot_below, quot_above, quot_floor, quot_less_floor}
-use Rattle.whole.proofs.down.Statement.{statement}
-use Rattle.whole.proofs.down.Tie as tie
+use Rattle.whole.proofs.down.Goals as goal
+use Rattle.whole.proofs.down.Goals.{Start}
 
 -- each number on the way, and that it fits
-module _ (c : tie.Start) where
+module _ (c : Start) where
   abbrev z : ℤ
   z = c.args.z
 
@@ -32,26 +32,14 @@ module _ (c : tie.Start) where
   less_fits : SFits w64 (q -ℤ pos 1)
   less_fits = omega (whole64, q_within, at (# q ⊖ # (pos 1)))
 
-div-q : tie.Need-nonzero-div-q
-div-q c = simp (back, c.ranges.z) (omega arith, q_fits c)
-
-mul-if1 : tie.Need-overflow-mul-if1
-mul-if1 c = simp (back, c.ranges.z, q_fits c) (product_fits c)
-
-sub-result : tie.Need-overflow-sub-result
-sub-result c = let s = c.before in simp (back, s.ranges.z, q_fits s) (less_fits s)
-
-returns : tie.Need-returns
-returns c =
-    let s = c.before in
+pub returns-then-q-z : goal.returns-then-q-z
+returns-then-q-z c =
+    let s = (goal.at.returns-then-q-z c).Start in
     simp (back, s.ranges.z, q_fits s, less_fits s)
-    (quot_less_floor (z s) million (omega arith) (lt_true _ _ (simp (back, s.ranges.z, q_fits s, product_fits s) at c.if1.true)))
+    (quot_less_floor (z s) million (omega arith) (lt_true _ _ (simp (back, s.ranges.z, q_fits s, product_fits s) at c.if-q-z.true)))
 
-returns-2 : tie.Need-returns-2
-returns-2 c =
-    let s = c.before in
+pub returns-else-q-z : goal.returns-else-q-z
+returns-else-q-z c =
+    let s = (goal.at.returns-else-q-z c).Start in
     simp (back, s.ranges.z, q_fits s)
-    (quot_floor (z s) million (omega arith) (lt_false _ _ (simp (back, s.ranges.z, q_fits s, product_fits s) at c.if1.false)))
-
-pub down-spec : {M : Type 1} → statement M
-down-spec = tie.close (tie.spec div-q mul-if1 sub-result returns returns-2)
+    (quot_floor (z s) million (omega arith) (lt_false _ _ (simp (back, s.ranges.z, q_fits s, product_fits s) at c.if-q-z.false)))
