@@ -2,22 +2,13 @@
 use mathlib.Core.Path.{◌≡◌, ap, ◌∙◌}
 use Prim.Native.Nat.{◌+◌, ◌-◌}
 use native.Mathlib.Omega.{arith}
-use borrow.Author.Rules.{rules}
 use Rattle.patterns.specs.Arrays.{rates_array}
 use Rattle.patterns.proofs.Held.{rates_array_law}
-use Rattle.patterns.proofs.rates_of.Statement.{statement}
-use Rattle.patterns.proofs.rates_of.Tie as tie
+use Rattle.patterns.proofs.rates_of.Goals as goal
 
-returns : tie.Need-returns
+pub returns : goal.returns
 returns c =
     let s = c.before.before.before in
     let t = s.args.t in
     let e : 1 + (t - 1) ≡ t = omega arith in
     c.rates.ensures ∙ rates_array_law s.args.plan (t - 1) (omega arith) ∙ ap (rates_array _) e
-
-pub rates-of-spec : {M : Type 1} → statement M
-rates-of-spec =
-    tie.close
-    (tie.spec
-    (λ c. search rules) (λ c. search rules) (λ c. search rules) (λ c κs. search rules)
-    returns)
