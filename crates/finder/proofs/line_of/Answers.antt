@@ -1,7 +1,6 @@
 -- `finder::line_of` makes a line of the form and the bound (LineLaws).
 use Prim.Native.Nat.{ℕ, ◌*◌}
 use native.Mathlib.Omega.{arith}
-use borrow.Author.Rules.{rules}
 use lib.ListN.{get_or}
 use lib.IntN.{ℤ, pos, ◌+ℤ◌, ◌*ℤ◌}
 use mir.Syntax.{w64}
@@ -12,31 +11,31 @@ use Rattle.whole.proofs.Range.{within_add, within_mul, within_pos, within_fits, 
 use Rattle.patterns.specs.Pattern.{bound_at}
 use Rattle.finder.proofs.Lines.{line_constant_within}
 use Rattle.finder.proofs.LineLaws.{line_refused, line_made, form_constant_within}
-use Rattle.finder.proofs.line_of.Statement.{statement}
-use Rattle.finder.proofs.line_of.Tie as tie
+use Rattle.finder.proofs.line_of.Goals as goal
+use Rattle.finder.proofs.line_of.Goals.{After-bound_at-bound, After-form_at-f, After-result-4-1}
 
-returns : tie.Need-returns
-returns c = line_refused _ _ c.before.form_at.ensures c.if1.true
+pub returns-then-no-ne0 : goal.returns-then-no-ne0
+returns-then-no-ne0 c = line_refused _ _ c.before.form_at-f.ensures c.if-no-ne0.true
 
 -- Q, the bound, and what is made of them
-module _ (c : tie.After-t23) where
-  abbrev formed : tie.After-form-at
+module _ (c : After-result-4-1) where
+  abbrev formed : After-form_at-f
   formed = c.before.before.before.before.before.before.before.before
 
-  abbrev bounded : tie.After-bound-at
+  abbrev bounded : After-bound_at-bound
   bounded = c.before.before.before.before.before.before
 
   abbrev q : ℤ
-  q = formed.form_at.result.constant
+  q = formed.form_at-f.result.constant
 
   abbrev b : ℤ
-  b = bounded.bound_at.result
+  b = bounded.bound_at-bound.result
 
   q_within : Within limit q
-  q_within = form_constant_within _ _ formed.form_at.ensures bounded.before.if1.left
+  q_within = form_constant_within _ _ formed.form_at-f.ensures bounded.before.if-no-ne0.false
 
   b_within : Within 4_294_967_296 b
-  b_within = omega (whole, bounded.bound_at.ensures.1)
+  b_within = omega (whole, bounded.bound_at-bound.ensures.between)
 
   twice_within : Within (2 * 4_294_967_296) (pos 2 *ℤ b)
   twice_within = within_mul {b = 2} (within_pos (omega arith)) b_within
@@ -58,44 +57,31 @@ module _ (c : tie.After-t23) where
 
   -- K_1 to K_4
   abbrev k : (j : ℕ) → ℤ
-  k j = get_or formed.form_at.result.coefficients j (pos 0)
+  k j = get_or formed.form_at-f.result.coefficients j (pos 0)
 
   k1_fits : SFits w64 (k 0)
-  k1_fits = ok64 (k 0) c.before.before.before.t14.given
+  k1_fits = ok64 (k 0) c.before.before.before.result-1.given
 
   k2_fits : SFits w64 (k 1)
-  k2_fits = ok64 (k 1) c.before.before.t17.given
+  k2_fits = ok64 (k 1) c.before.before.result-2-1.given
 
   k3_fits : SFits w64 (k 2)
-  k3_fits = ok64 (k 2) c.before.t20.given
+  k3_fits = ok64 (k 2) c.before.result-3-1.given
 
   k4_fits : SFits w64 (k 3)
-  k4_fits = ok64 (k 3) c.t23.given
+  k4_fits = ok64 (k 3) c.result-4-1.given
 
-mul-t24 : tie.Need-overflow-mul-t24
-mul-t24 c = simp (back, b_fits c) (twice_fits c)
+pub overflow_mul-result : goal.overflow_mul-result
+overflow_mul-result c = simp (back, b_fits c) (twice_fits c)
 
-add-t25 : tie.Need-overflow-add-t25
-add-t25 c = simp (back, b_fits c, q_fits c, twice_fits c) (sum_fits c)
+pub overflow_add-result : goal.overflow_add-result
+overflow_add-result c = simp (back, b_fits c, q_fits c, twice_fits c) (sum_fits c)
 
-mul-t26 : tie.Need-overflow-mul-t26
-mul-t26 c = simp (back, b_fits c, q_fits c, twice_fits c, sum_fits c) (product_fits c)
+pub overflow_mul-result-2 : goal.overflow_mul-result-2
+overflow_mul-result-2 c = simp (back, b_fits c, q_fits c, twice_fits c, sum_fits c) (product_fits c)
 
-returns-2 : tie.Need-returns-2
+pub returns : goal.returns
 unfolding bound_at
-returns-2 c =
+returns c =
     simp (back, b_fits c, q_fits c, twice_fits c, sum_fits c, product_fits c, k1_fits c, k2_fits c, k3_fits c, k4_fits c)
-    (line_made _ _ (formed c).form_at.ensures (bounded c).before.if1.false (bounded c).bound_at.ensures.0)
-
-pub line-of-spec : {M : Type 1} → statement M
-line-of-spec =
-    tie.close
-    (tie.spec
-    (λ c κs. search rules)
-    returns
-    (λ c κs. search rules)
-    (λ c. search rules) (λ c. search rules) (λ c. search rules) (λ c. search rules)
-    mul-t24
-    add-t25
-    mul-t26
-    returns-2)
+    (line_made _ _ (formed c).form_at-f.ensures (bounded c).before.if-no-ne0.false (bounded c).bound_at-bound.ensures.value)
