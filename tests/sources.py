@@ -22,8 +22,8 @@ def line_of(text, place):
 
 # ---- Rattle
 
-# A clause of a contract: `requires` or `ensures`, the name of its result, what it says, and its place in the text.
-Clause = collections.namedtuple("Clause", "word binder says start end")
+# A clause of a contract: `requires` or `ensures`, what it says, and its place in the text. Its own name is no part of what it says.
+Clause = collections.namedtuple("Clause", "word says start end")
 Function = collections.namedtuple("Function", "name public parameters result clauses first last opens")
 
 HEAD = re.compile(
@@ -87,9 +87,7 @@ def result_ends(text, place):
 def clause(text, found):
     """The clause that was found, read from its braces."""
     end = closed(text, found.end() - 1)
-    inside = text[found.end():end - 1]
-    bound = re.match(r"\s*λ\s*\(?([^\s.:()]+)", inside)
-    return Clause(found.group(1), bound.group(1) if bound else "_", squeezed(inside), found.start(), end)
+    return Clause(found.group(1), squeezed(text[found.end():end - 1]), found.start(), end)
 
 
 def function(text, found):
@@ -118,15 +116,14 @@ def functions(text):
 
 
 def uses(clause):
-    """A clause speaks of the result that it binds."""
-    name = re.escape(clause.binder)
-    said = clause.says.partition(".")[2]
-    return clause.binder != "_" and re.search(rf"(?<![\w'·.-]){name}(?![\w'·-])", said) is not None
+    """A clause speaks of the function's result, and binds no other one."""
+    bound = re.search(r"λ[^.]*(?<![\w'.-])result(?![\w'-])[^.]*\.|\(result\b[^():]*:", clause.says)
+    return not bound and re.search(r"(?<![\w'.-])result(?![\w'-])", clause.says) is not None
 
 
-def names_exit(clause, name):
+def names_new(clause, name):
     """A clause speaks of what a parameter holds when the function returns."""
-    return re.search(rf"(?<![\w'·.-]){re.escape(name)} \.exit\b", clause.says) is not None
+    return re.search(rf"(?<![\w'.-]){re.escape(name)}\.new(?![\w'-])", clause.says) is not None
 
 
 # ---- must-fail edits
