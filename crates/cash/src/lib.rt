@@ -1,6 +1,7 @@
 // The cash account with two rates: an operator lends what is left over and borrows what is missing. Place 0 of a list of rates is year 2,
 // of a flow year 1.
 #![tactic(auto)]
+
 ghost use Rattle.std.specs.Prelude.{◌≡◌, ◌≤◌, length, get_or, pos};
 ghost use Rattle.whole.specs.Range.{million, limit, Between, Within};
 ghost use Rattle.whole.specs.Table.{table};

@@ -1,5 +1,6 @@
 // Numbers of 2, 4 and 8 bytes in a slice, the lowest byte first: unsigned, and signed in two's complement.
 #![tactic(auto)]
+
 ghost use Rattle.std.specs.Prelude.{◌≡◌, ◌+◌, ◌≤◌, length};
 ghost use Rattle.little_endian.specs.LittleEndian.{le_at, stored};
 ghost use Rattle.little_endian.specs.TwosComplement.{signed_of, unsigned_of};

@@ -1,5 +1,6 @@
 // A plan in one pattern: the arrays that all patterns share, the fund, K and Q, the bound and the form.
 #![tactic(auto)]
+
 ghost use Rattle.std.specs.Prelude.{◌≡◌, true, ◌+◌, ◌≤◌, ◌<◌, get_or, pos, ◌*ℤ◌};
 ghost use Rattle.whole.specs.Range.{limit, Between, Within};
 ghost use Rattle.whole.specs.Sum.{sum};

@@ -1,5 +1,6 @@
 // The plan held as values, what it means in arrays, and the checks that refuse it.
 #![tactic(auto)]
+
 ghost use Rattle.std.specs.Prelude.{◌≡◌, true, ◌+◌, ◌-◌, ◌≤◌, min, length, get_or, pos};
 ghost use Rattle.whole.specs.Sum.{sum_ℕ};
 ghost use Rattle.whole.specs.Test.{pick, all, is_from, is_between};

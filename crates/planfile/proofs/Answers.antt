@@ -6,7 +6,7 @@ use Prim.Native.Nat.{ℕ, ◌≤◌}
 use lib.IntN.{pos}
 use Rattle.whole.proofs.Entry.{entry_empty}
 use Rattle.little_endian.specs.LittleEndian.{Bytes}
-use Rattle.plan.specs.Held.{PlainHeld, held, Typed, plan_from}
+use Rattle.plan.specs.Held.{no_plan, PlainHeld, held, Typed, plan_from}
 use Rattle.plan.specs.Numbers.{Numbers, numbers, meaning}
 use Rattle.plan.specs.Refusal.{refusal_of, Accepted}
 use Rattle.plan.proofs.Held.{until_small}
@@ -45,11 +45,11 @@ plain_uncosted s e = e.costed
 module _ (s : List ℕ) (e : (records_answer s).refusal ≡ 0) where
   pub records_none : layout_refusal s ≡ 0
   unfolding records_answer
-  records_none = not_refused _ _ (λ (a : ReadAnswer). a.refusal) (λ n. refl) _ e
+  records_none = not_refused (λ n. record { refusal = n; plan = no_plan }) _ (λ (a : ReadAnswer). a.refusal) (λ n. refl) _ e
 
   pub records_plan : (records_answer s).plan ≡ plan_from (held_in s)
   unfolding records_answer
-  records_plan = ap (λ (a : ReadAnswer). a.plan) (answer_accepted _ _ _ records_none)
+  records_plan = ap (λ (a : ReadAnswer). a.plan) (answer_accepted (λ n. record { refusal = n; plan = no_plan }) _ (record { refusal = 0; plan = plan_from (held_in s) }) records_none)
 
   pub records_numbers : numbers (records_answer s).plan ≡ numbers_in s
   records_numbers = ap meaning (ap held records_plan ∙ held_read s (layout_laid s records_none).range)
@@ -58,7 +58,7 @@ module _ (s : List ℕ) (e : (records_answer s).refusal ≡ 0) where
 module _ (s : List ℕ) (e : (read_answer s).refusal ≡ 0) where
   none_refused : read_refusal s ≡ 0
   unfolding read_answer
-  none_refused = not_refused _ _ (λ (a : ReadAnswer). a.refusal) (λ n. refl) _ e
+  none_refused = not_refused (λ n. record { refusal = n; plan = no_plan }) _ (λ (a : ReadAnswer). a.refusal) (λ n. refl) _ e
 
   -- its records are those that its shape requires
   laid_read : Laid s (shape_in s)
@@ -68,7 +68,7 @@ module _ (s : List ℕ) (e : (read_answer s).refusal ≡ 0) where
   -- its plan is that of what it holds, with the same numbers
   pub plan_read : (read_answer s).plan ≡ plan_from (held_in s)
   unfolding read_answer
-  plan_read = ap (λ (a : ReadAnswer). a.plan) (answer_accepted _ _ _ none_refused)
+  plan_read = ap (λ (a : ReadAnswer). a.plan) (answer_accepted (λ n. record { refusal = n; plan = no_plan }) _ (record { refusal = 0; plan = plan_from (held_in s) }) none_refused)
 
   pub plan_holds : held (read_answer s).plan ≡ held_in s
   plan_holds = ap held plan_read ∙ held_read s laid_read.range

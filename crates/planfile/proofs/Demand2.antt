@@ -9,10 +9,10 @@ use native.Mathlib.Omega.{arith}
 use borrow.Author.Tests.{le-leb, leb-true}
 use lib.Dec.{leb}
 use lib.ListN.{length, take, drop}
-use lib.Seq.{sets-eq, take-append_seam}
+use lib.Seq.{sets, sets-eq, take-append_seam}
 use Rattle.little_endian.specs.LittleEndian.{Bytes}
 use Rattle.plan.specs.declared.Plan.{Plan}
-use Rattle.plan.specs.Held.{Held, shape_of, held, Typed, plan_from}
+use Rattle.plan.specs.Held.{no_plan, Held, shape_of, held, Typed, plan_from}
 use Rattle.plan.specs.Numbers.{numbers, meaning}
 use Rattle.plan.specs.Refusal.{shape_ok, head_ok, head_refusal, refusal_of}
 use Rattle.plan.proofs.Held.{Tidy, tidy_held, held_from}
@@ -57,7 +57,7 @@ module _ (plan : Plan) (e : refusal_of (numbers plan) ≡ 0) where
 
     read_written : read_answer s ≡ record { refusal = 0; plan = plan_from (held plan) }
     unfolding read_answer
-    read_written = answer_accepted _ _ _ passes ∙ ap (λ (H : Held). record { refusal = 0; plan = plan_from H }) holds
+    read_written = answer_accepted (λ n. record { refusal = n; plan = no_plan }) _ _ passes ∙ ap (λ (H : Held). record { refusal = 0; plan = plan_from H }) holds
 
 -- ---- the buffer after a call that is not refused
 module _ (plan : Plan) (buffer : List ℕ) (e : write_refusal plan buffer ≡ 0) where
@@ -72,7 +72,7 @@ module _ (plan : Plan) (buffer : List ℕ) (e : write_refusal plan buffer ≡ 0)
   -- the file, and after it the bytes that were there
   buffer_written : buffer_after plan buffer ≡ file_of (held plan) ++ drop (length (file_of (held plan))) buffer
   unfolding buffer_after
-  buffer_written = answer_accepted _ _ _ e ∙ rw (sets-eq (file_of (held plan)) buffer 0 (omega (arith, room)), zero-add)
+  buffer_written = answer_accepted (λ n. buffer) _ (sets buffer 0 (file_of (held plan))) e ∙ rw (sets-eq (file_of (held plan)) buffer 0 (omega (arith, room)), zero-add)
 
 -- ---- one file
 module _ (plan : Plan) (e : refusal_of (numbers plan) ≡ 0) where
@@ -85,7 +85,7 @@ module _ (plan : Plan) (e : refusal_of (numbers plan) ≡ 0) where
   pub one_file : Typed plan → OneFile (file_of (held plan)) plan
   unfolding write_answer
   one_file typed = record {
-    written = λ buffer room. answer_accepted _ _ _ (none_refuses plan e buffer room);
+    written = λ buffer room. answer_accepted (λ n. record { refusal = n; length = 0 }) _ _ (none_refuses plan e buffer room);
     left = λ buffer room. buffer_written plan buffer (none_refuses plan e buffer room);
     read = read_written plan e typed;
     same = ap meaning (held_from (held plan) (tidy plan e));
@@ -105,5 +105,5 @@ pub file_written : (plan : Plan) (buffer : List ℕ) → Typed plan → {a : Wri
 unfolding write_answer
 file_written plan buffer typed is left e =
     let f : (write_answer plan buffer).refusal ≡ 0 = rw (← is) e in
-    let r : write_refusal plan buffer ≡ 0 = not_refused _ _ (λ (a : WriteAnswer). a.refusal) (λ n. refl) _ f in
-    rw (is, left, answer_accepted _ _ _ r, buffer_written plan buffer r, take-append_seam) (one_file plan (plan_taken plan buffer r) typed)
+    let r : write_refusal plan buffer ≡ 0 = not_refused (λ n. record { refusal = n; length = 0 }) _ (λ (a : WriteAnswer). a.refusal) (λ n. refl) _ f in
+    rw (is, left, answer_accepted {A = WriteAnswer} (λ n. record { refusal = n; length = 0 }) _ (record { refusal = 0; length = length (file_of (held plan)) }) r, buffer_written plan buffer r, take-append_seam) (one_file plan (plan_taken plan buffer r) typed)

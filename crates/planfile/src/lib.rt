@@ -1,5 +1,6 @@
 // The format of a plan file: which records it has, in which order, and how long they are.
 #![tactic(auto)]
+
 ghost use Rattle.std.specs.Prelude.{◌≡◌};
 ghost use Rattle.planfile.specs.Kinds.{role_of, size_of};
 ghost use Rattle.planfile.specs.Groups.{groups_of, total, spot_at};

@@ -1,9 +1,9 @@
 -- A plan without money already invested, without a cost at the horizon and without slopes is one of document 01.
 use mathlib.Core.Path.{◌≡◌, refl, ap, ◌∙◌, fun_ext}
 use mathlib.Core.Bool.{Bool, true, false}
-use Prim.Native.Nat.{ℕ, ◌+◌, ◌-◌, ◌*◌, ◌^◌}
+use Prim.Native.Nat.{ℕ, ◌-◌, ◌*◌, ◌^◌}
 use native.Mathlib.Omega.{arith}
-use lib.IntN.{ℤ, pos, neg_ℤ, ◌-ℤ◌, ◌*ℤ◌, +ℤ_idr}
+use lib.IntN.{pos, neg_ℤ, ◌-ℤ◌, ◌*ℤ◌, +ℤ_idr}
 use Rattle.whole.specs.Range.{million}
 use Rattle.whole.specs.Floor.{floor}
 use Rattle.whole.specs.Test.{both}

@@ -1,5 +1,6 @@
 // The calls open to callers. Each takes any plan and any pattern number, and its contract says the whole answer.
 #![tactic(auto)]
+
 ghost use Rattle.std.specs.Prelude.{◌≡◌, false, ◌≤◌, eqb, get_or, pos};
 ghost use Rattle.whole.specs.Range.{limit, Between, Within};
 ghost use Rattle.whole.specs.Test.{pick};

@@ -1,5 +1,6 @@
 // Records taken off a file from its front.
 #![tactic(auto)]
+
 ghost use Rattle.std.specs.Prelude.{◌≡◌};
 ghost use Rattle.records.specs.Cursor.{next_at};
 

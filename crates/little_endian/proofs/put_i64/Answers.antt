@@ -1,0 +1,13 @@
+-- `little_endian::put_i64` stores the bits of two's complement.
+use mathlib.Core.Path.{ap, ◌∙◌}
+use mir.Facts.{to_z-of_z}
+use Rattle.little_endian.specs.LittleEndian.{stored}
+use Rattle.little_endian.specs.TwosComplement.{unsigned_of}
+use Rattle.little_endian.proofs.put_i64.Goals as goal
+
+pub returns : goal.returns
+returns c =
+    let u = c.before.before.before in
+    let s = u.before.before.before in
+    c.before.before.put_u64.ensures
+    ∙ ap (stored 8 s.args.b.now s.args.at) (u.unsigned_64.ensures ∙ ap (unsigned_of 8) (to_z-of_z s.ranges.x))
