@@ -1,6 +1,6 @@
 /* The cash account of a plan file by the library, at two rates: `WORD ACCOUNT BOUND`, or `refused` and the number of the check.
  *
- *     rt staticlib becketgrape && cc -std=c11 -Iinclude examples/cash.c target/staticlib/libbecketgrape.a -o target/cash
+ *     (cd crates/becketgrape && rt lib) && cc -std=c11 -Iinclude examples/cash.c crates/becketgrape/out/libbecketgrape.a -o target/cash
  *     target/cash examples/two_rates.plan 20000,20000,20000,20000,20000 80000,80000,80000,80000,80000
  *
  * The first list has the lending rates and the second the borrowing rates of years 2 to N, in millionths; `none` is a list of none. */

@@ -1,6 +1,6 @@
 /* An allocation of a plan file that works, by the library: `found` and the shares, `none`, or `refused` and the number of the check.
  *
- *     rt staticlib becketgrape && cc -std=c11 -Iinclude examples/find.c target/staticlib/libbecketgrape.a -o target/find
+ *     (cd crates/becketgrape && rt lib) && cc -std=c11 -Iinclude examples/find.c crates/becketgrape/out/libbecketgrape.a -o target/find
  *     target/find examples/L.plan 5
  *     target/find examples/L.plan 5 target/found.plan
  *

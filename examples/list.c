@@ -1,6 +1,6 @@
 /* Lists a plan file by the library, and says on standard error what the plan comes to.
  *
- *     rt staticlib becketgrape && cc -std=c11 -Iinclude examples/list.c target/staticlib/libbecketgrape.a -o target/list
+ *     (cd crates/becketgrape && rt lib) && cc -std=c11 -Iinclude examples/list.c crates/becketgrape/out/libbecketgrape.a -o target/list
  *     target/list examples/L.plan
  */
 #include <stdio.h>

@@ -1,6 +1,6 @@
 /* The planner's calls, for programs in C.
  *
- * Link target/staticlib/libbecketgrape.a, which `rt staticlib becketgrape` builds. Every function is proved against the contract
+ * Link crates/becketgrape/out/libbecketgrape.a, which `rt lib` builds in crates/becketgrape. Every function is proved against the contract
  * that stands with it in crates/becketgrape/src/lib.rt. It asks of the caller only what C's pointers must be: each is to as many
  * elements as its declaration or the length beside it says, a buffer that is written overlaps no other, and none is null, also
  * where the length is 0. There is no state and no allocation: calls may be made on any threads at once, on buffers of their own. A

@@ -15,10 +15,10 @@ def request(file_length, lending_length=0, borrowing_length=0, only=EVERY_CALL, 
 
 
 def built(name):
-    """The driver, as target/NAME, linked with target/staticlib/libbecketgrape.a; None if it cannot be built."""
+    """The driver, as target/NAME, linked with crates/becketgrape/out/libbecketgrape.a; None if it cannot be built."""
     program = os.path.join(ROOT, "target", name)
     build = ["gcc", "-std=c11", "-O2", "-Wall", "-Wextra", "-pedantic", "-Werror", "-I", os.path.join(ROOT, "include"), "-o", program]
-    sources = [os.path.join(ROOT, "tests/calls.c"), os.path.join(ROOT, "target/staticlib/libbecketgrape.a")]
+    sources = [os.path.join(ROOT, "tests/calls.c"), os.path.join(ROOT, "crates/becketgrape/out/libbecketgrape.a")]
     if subprocess.run(build + sources).returncode != 0:
         print("the driver was not built")
         return None

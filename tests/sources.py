@@ -22,8 +22,8 @@ def line_of(text, place):
 
 # ---- Rattle
 
-# A clause of a contract: `requires` or `ensures`, the name of its result, what it says, and its place in the text.
-Clause = collections.namedtuple("Clause", "word binder says start end")
+# A clause of a contract: `requires` or `ensures`, what it says, and its place in the text. Its own name is no part of what it says.
+Clause = collections.namedtuple("Clause", "word says start end")
 Function = collections.namedtuple("Function", "name public parameters result clauses first last opens")
 
 HEAD = re.compile(
@@ -87,9 +87,7 @@ def result_ends(text, place):
 def clause(text, found):
     """The clause that was found, read from its braces."""
     end = closed(text, found.end() - 1)
-    inside = text[found.end():end - 1]
-    bound = re.match(r"\s*λ\s*\(?([^\s.:()]+)", inside)
-    return Clause(found.group(1), bound.group(1) if bound else "_", squeezed(inside), found.start(), end)
+    return Clause(found.group(1), squeezed(text[found.end():end - 1]), found.start(), end)
 
 
 def function(text, found):
@@ -118,22 +116,25 @@ def functions(text):
 
 
 def uses(clause):
-    """A clause speaks of the result that it binds."""
-    name = re.escape(clause.binder)
-    said = clause.says.partition(".")[2]
-    return clause.binder != "_" and re.search(rf"(?<![\w'·.-]){name}(?![\w'·-])", said) is not None
+    """A clause speaks of the function's result, and binds no other one."""
+    bound = re.search(r"λ[^.]*(?<![\w'.-])result(?![\w'-])[^.]*\.|\(result\b[^():]*:", clause.says)
+    return not bound and re.search(r"(?<![\w'.-])result(?![\w'-])", clause.says) is not None
 
 
-def names_exit(clause, name):
+def names_new(clause, name):
     """A clause speaks of what a parameter holds when the function returns."""
-    return re.search(rf"(?<![\w'·.-]){re.escape(name)} \.exit\b", clause.says) is not None
+    return re.search(rf"(?<![\w'.-]){re.escape(name)}\.new(?![\w'-])", clause.says) is not None
 
 
 # ---- must-fail edits
 
 Step = collections.namedtuple("Step", "wrong file old new")
-UNPROVED = r"(?:returns|loop\d*-holds|loop\d*-again)(?:-\d+)?`"
-NOTED = "it is not proved that what the function ensures holds when it returns"
+# The goals that a function's result, or the start or the turn of one of its loops, is proved by.
+RESULT = re.compile(r"(?:returns|loop-\S+-(?:init|preserved))(?:-\S+)?")
+# A proof that names something that the code does not have.
+UNFIT = re.compile(r"has no field|that can be named from here|was not admitted|is not in scope")
+ERROR = re.compile(r"(?:\./)?(proofs/\S+/[^/]+\.antt):\d+:\d+: error: (?:`([^`]+)`: )?")
+NOTE = re.compile(r"note: (?:\./)?(src/\S+):(\d+):\d+: it is not proved that .*? \(`([^`]+)`\)")
 
 
 @functools.lru_cache(maxsize=None)
@@ -166,17 +167,69 @@ def changed(edit, file, text):
     return lines
 
 
-def unproved(log, file, function):
-    """The lines of a log at which a function's own result, or the start or the turn of one of its loops, is not proved: in its proof,
-    where a function that calls itself has its name before each, or in a note where it has no proof file."""
-    named = function.name.replace("_", "-")
-    proof = re.compile(rf"\S*/proofs/(?:{function.name}/Proof\.antt:\d+:\d+: error: `"
-                       rf"|\+{function.name}/Proof\.antt:\d+:\d+: error: `{named}-){UNPROVED}")
-    note = re.compile(rf"note: \S*/{re.escape(file)}:(\d+):\d+: {NOTED} \(`{UNPROVED}\)")
-    for line in log.splitlines():
-        noted = note.match(line)
-        if proof.match(line) or noted and function.first <= int(noted.group(1)) <= function.last:
-            yield line
+@functools.lru_cache(maxsize=None)
+def citing(text):
+    """The names that a proof file declares, each with the words of its declaration."""
+    found = collections.defaultdict(set)
+
+    def read(lines):
+        for block in blocks(lines):
+            words = plain(joined(block))[0].split()
+            if words[:1] == ["module"]:
+                read(headed(block)[1])
+            elif words and words[0] != "use":
+                found[words[0]].update(re.findall(r"[^\s(){}.;,\[\]]+", joined(block)))
+    read(list(lines_of(text)))
+    return dict(found)
+
+
+def rests_on(name, proofs):
+    """The names of some proof files that a declaration cites, by itself or through others; its own among them."""
+    declared, found, left = {}, set(), [name]
+    for text in proofs:
+        for each, words in citing(text).items():
+            declared.setdefault(each, set()).update(words)
+    while left:
+        each = left.pop()
+        if each not in found and each in declared:
+            found.add(each)
+            left += declared[each]
+    return found
+
+
+def is_result(answer, name):
+    """Whether an answer is of a goal that proves a function's result or one of its loops. In a cycle of calls it has the function's name first."""
+    for front in f"{name}-", f"{name.replace('_', '-')}-":
+        answer = answer.removeprefix(front)
+    return RESULT.fullmatch(answer) is not None
+
+
+@functools.lru_cache(maxsize=None)
+def unproved_in(log, file, name, first, last, own):
+    """The lines of a log at which the result of a function is not proved, whose lines and whose own proof files these are."""
+    if not re.search(rf"(?m)^fn (?:\w+::)+{name}: (?:not proved|no proof)", log):
+        return ()
+    paths, texts = {path for path, _ in own}, [text for _, text in own]
+    answers = {each for text in texts for each in citing(text) if is_result(each, name)}
+    below = set().union(*(rests_on(each, texts) for each in answers))
+    lines, found = log.splitlines(), []
+    unfit = any(ERROR.match(line) and ERROR.match(line)[1] in paths and UNFIT.search(line) for line in lines)
+    for line in lines:
+        error, note = ERROR.match(line), NOTE.match(line)
+        if error and error[1] in paths and error[2] and not UNFIT.search(line):
+            found += [line] if is_result(error[2], name) or error[2] in below else []
+        elif note and not unfit and note[1] == file and first <= int(note[2]) <= last:
+            found += [line] if is_result(note[3], name) else []
+    return tuple(found)
+
+
+def unproved(log, file, function, files):
+    """The lines of a log at which a function's own result, or the start or the turn of one of its loops, is not proved: an error of its
+    answer or of what the answer rests on in the function's own proof files, or a note that no answer was found. `files` are the crate's proof
+    files by their paths. A proof that does not fit does not count, and no note does where one of the function's own files does not fit."""
+    front = re.compile(rf"proofs/(?:\S+/)?\+?{function.name}/[^/]+\.antt")
+    own = tuple((path, text) for path, text in sorted(files.items()) if front.fullmatch(path))
+    return unproved_in(log, file, function.name, function.first, function.last, own)
 
 
 # ---- antt
