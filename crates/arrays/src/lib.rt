@@ -1,6 +1,7 @@
 // A plan in four plain arrays, one for each width of number, and back. The parts of a plan stand in them one after the other, and so do
 // the rows of a table, thirty values each.
 #![tactic(auto)]
+
 ghost use Rattle.std.specs.Prelude.{◌≡◌, ◌+◌, ◌≤◌, ◌<◌, length, drop};
 ghost use Rattle.std.proofs.Math.Seq.{paste};
 ghost use Rattle.arrays.specs.Arrays.{values_at, cost_from, allocation_from, sloped_of, untils_of, starts_of, steps_of, all_counts, all_amounts, all_shares, all_rates, all_gammas, instruments_of, byte_of, pattern_of, patterns_of, plan_of_arrays};

@@ -1,5 +1,6 @@
 // The search for an allocation whose verdict is solvent, instrument by instrument over the parts still to be placed.
 #![tactic(auto)]
+
 ghost use Rattle.std.specs.Prelude.{◌≡◌, true, [], ℕ, ◌+◌, ◌≤◌, ◌<◌, get_or, set, replicate, pos};
 ghost use Rattle.whole.specs.Range.{million};
 ghost use Rattle.whole.specs.Sum.{sum_ℕ};

@@ -1,5 +1,6 @@
 // Plan files, read into a plan held as values.
 #![tactic(auto)]
+
 ghost use Rattle.std.specs.Prelude.{◌≡◌, true, ◌*◌, ◌≤◌, pos, length, replicate};
 ghost use Rattle.records.specs.Cursor.{next_at, whole_file};
 ghost use Rattle.plan.specs.Held.{no_plan, plan_from};

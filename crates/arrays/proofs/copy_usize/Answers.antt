@@ -1,0 +1,17 @@
+-- `arrays::copy_usize` copies value after value (Copying).
+use mathlib.Core.Path.{refl}
+use native.Mathlib.Omega.{arith}
+use Rattle.arrays.proofs.Copying.{copy_start, copy_turn, copy_end}
+use Rattle.arrays.proofs.copy_usize.Goals as goal
+
+pub loop-k-init : goal.loop-k-init
+loop-k-init c = copy_start
+
+pub loop-k-preserved : goal.loop-k-preserved
+loop-k-preserved c = copy_turn 0 (omega arith) (omega arith) c.before.loop-k-test.true c.before.before.loop-k.invariant refl
+
+pub shape_of-to : goal.shape_of-to
+shape_of-to c = c.before.loop-k.invariant.kept
+
+pub returns : goal.returns
+returns c = copy_end c.loop-k-test.false c.before.loop-k.invariant

@@ -1,0 +1,18 @@
+-- `arrays::untils_of` fills in T of one pattern after the other (whole's Filling).
+use mathlib.Core.Path.{refl}
+use native.Mathlib.Omega.{arith}
+use Rattle.whole.proofs.Filling.{fill_start, fill_turn, fill_end}
+use Rattle.arrays.specs.Arrays.{of_each}
+use Rattle.arrays.proofs.untils_of.Goals as goal
+
+pub loop-t-preserved : goal.loop-t-preserved
+loop-t-preserved c =
+    let t = c.before.before in
+    fill_turn (omega arith) t.loop-t-test.true t.before.loop-t.invariant refl
+
+pub returns : goal.returns
+unfolding of_each
+returns c = fill_end c.loop-t-test.false c.before.loop-t.invariant
+
+pub loop-t-init : goal.loop-t-init
+loop-t-init c = fill_start
