@@ -1,4 +1,5 @@
 -- `writer::put_record` puts down the record that its role asks for.
+use mathlib.Core.Path.{◌≡◌}
 use native.Mathlib.Omega.{arith}
 use Rattle.whole.specs.Entry.{nth}
 use Rattle.plan.specs.Held.{outflows_held, rollover_held, allocation_held, held}
@@ -20,29 +21,29 @@ returns-in-1 c = rw c.in-1.is (rw c.shape_of-shape.ensures at c.put_head.ensures
 -- ---- 3: the outflows
 pub put_amounts_record-requires-clause-room : goal.put_amounts_record-requires-clause-room
 unfolding record_of nth outflows_held
-put_amounts_record-requires-clause-room c = rw c.in-3.is at c.requires.room
+put_amounts_record-requires-clause-room c = let key : c.args.role ≡ 3 = omega arith in rw key at c.requires.room
 
 pub returns-in-3 : goal.returns-in-3
 unfolding record_of nth outflows_held
-returns-in-3 c = rw c.in-3.is c.put_amounts_record.ensures
+returns-in-3 c = let key : c.args.role ≡ 3 = omega arith in rw key c.put_amounts_record.ensures
 
 -- ---- 4: the rollover
 pub put_shares_record-requires-clause-room : goal.put_shares_record-requires-clause-room
 unfolding record_of nth rollover_held
-put_shares_record-requires-clause-room c = rw c.in-4.is at c.requires.room
+put_shares_record-requires-clause-room c = let key : c.args.role ≡ 4 = omega arith in rw key at c.requires.room
 
 pub returns-in-4 : goal.returns-in-4
 unfolding record_of nth rollover_held
-returns-in-4 c = rw c.in-4.is c.put_shares_record.ensures
+returns-in-4 c = let key : c.args.role ≡ 4 = omega arith in rw key c.put_shares_record.ensures
 
 -- ---- 6: the allocation
 pub put_shares_record-requires-in-6-clause-room : goal.put_shares_record-requires-in-6-clause-room
 unfolding record_of nth allocation_held
-put_shares_record-requires-in-6-clause-room c = rw c.in-6.is at c.requires.room
+put_shares_record-requires-in-6-clause-room c = let key : c.args.role ≡ 6 = omega arith in rw key at c.requires.room
 
 pub returns-in-6 : goal.returns-in-6
 unfolding record_of nth allocation_held
-returns-in-6 c = rw c.in-6.is c.put_shares_record-in-6.ensures
+returns-in-6 c = let key : c.args.role ≡ 6 = omega arith in rw key c.put_shares_record-in-6.ensures
 
 -- ---- 7: the money already invested
 pub put_amounts_record-requires-in-7-clause-room : goal.put_amounts_record-requires-in-7-clause-room
