@@ -17,7 +17,7 @@ use Rattle.plan.specs.Held.{instruments_held, outflows_held, rollover_held, patt
 use Rattle.plan.specs.Refusal.{head_ok, payments_ok, payments_fit, outflows_ok, opening_ok, cost_ok, amounts_ok, rollover_ok, untils_ok, rates_ok, rates_fit, allocation_ok, head_refusal, amounts_refusal, rates_refusal, allocation_refusal, refusal_of}
 use Rattle.plan.specs.Case.{near_L, plan_L, renewed, one_year, longer}
 use Rattle.patterns.specs.Pattern.{flow_of, exact_left_of, left_of, fund_at, bound_at, flow_fits, coefficients_fit, constant_fits}
-use Rattle.planner.specs.Verdict.{word_of, bits_of, row_fits_law, word_at, pattern_word, verdict_refusal, short_bits, plan_word, verdict_answer}
+use Rattle.planner.specs.Verdict.{word_of, bits_of, row_fits, word_at, pattern_word, verdict_refusal, short_bits, plan_word, verdict_answer}
 use Rattle.finder.specs.Grid.{down_from, splits, allocation_of, allocations}
 use Rattle.finder.specs.Find.{solvent_with, first_that, is_among, parts_taken, find_refusal, find_answer}
 use Rattle.finder.specs.Case.{paid_yearly, grid_cases, find_cases, limit_cases, refusal_cases, worked_cases}
@@ -28,21 +28,21 @@ grids_agree = refl
 
 finds_agree : agree find_cases ≡ true
 unfolding agree find_cases is_same is_between find_answer find_refusal first_that is_among parts_taken solvent_with allocations down_from splits allocation_of table verdict_answer verdict_refusal plan_word short_bits
-    bits_of pattern_word word_at word_of row_fits_law flow_fits coefficients_fit constant_fits fund_fits alphas_fit fund_at bound_at flow_of fund alpha alpha_step sent flow paid w h ceiling G B floor
+    bits_of pattern_word word_at word_of row_fits flow_fits coefficients_fit constant_fits fund_fits alphas_fit fund_at bound_at flow_of fund alpha alpha_step sent flow paid w h ceiling G B floor
     share_of sum sum_ℕ largest course history nth cut entry all refusal_of head_refusal amounts_refusal rates_refusal allocation_refusal head_ok payments_ok payments_fit outflows_ok opening_ok cost_ok
     amounts_ok rollover_ok untils_ok rates_ok rates_fit allocation_ok instruments_held outflows_held rollover_held patterns_held allocation_held opening_held cost_held exact_left_of left_of left plan_L near_L one_year renewed longer
 finds_agree = refl
 
 limits_agree : agree limit_cases ≡ true
 unfolding agree limit_cases is_same is_between find_answer find_refusal first_that is_among parts_taken solvent_with allocations down_from splits allocation_of table verdict_answer verdict_refusal plan_word short_bits
-    bits_of pattern_word word_at word_of row_fits_law flow_fits coefficients_fit constant_fits fund_fits alphas_fit fund_at bound_at flow_of fund alpha alpha_step sent flow paid w h ceiling G B floor
+    bits_of pattern_word word_at word_of row_fits flow_fits coefficients_fit constant_fits fund_fits alphas_fit fund_at bound_at flow_of fund alpha alpha_step sent flow paid w h ceiling G B floor
     share_of sum sum_ℕ largest course history nth cut entry all refusal_of head_refusal amounts_refusal rates_refusal allocation_refusal head_ok payments_ok payments_fit outflows_ok opening_ok cost_ok
     amounts_ok rollover_ok untils_ok rates_ok rates_fit allocation_ok instruments_held outflows_held rollover_held patterns_held allocation_held opening_held cost_held exact_left_of left_of left paid_yearly
 limits_agree = refl
 
 refusals_agree : agree refusal_cases ≡ true
 unfolding agree refusal_cases is_same is_between find_answer find_refusal first_that is_among parts_taken solvent_with allocations down_from splits allocation_of table verdict_answer verdict_refusal plan_word short_bits
-    bits_of pattern_word word_at word_of row_fits_law flow_fits coefficients_fit constant_fits fund_fits alphas_fit fund_at bound_at flow_of fund alpha alpha_step sent flow paid w h ceiling G B floor
+    bits_of pattern_word word_at word_of row_fits flow_fits coefficients_fit constant_fits fund_fits alphas_fit fund_at bound_at flow_of fund alpha alpha_step sent flow paid w h ceiling G B floor
     share_of sum sum_ℕ largest course history nth cut entry all refusal_of head_refusal amounts_refusal rates_refusal allocation_refusal head_ok payments_ok payments_fit outflows_ok opening_ok cost_ok
     amounts_ok rollover_ok untils_ok rates_ok rates_fit allocation_ok instruments_held outflows_held rollover_held patterns_held allocation_held opening_held cost_held exact_left_of left_of left plan_L near_L one_year renewed
 refusals_agree = refl

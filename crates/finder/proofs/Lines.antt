@@ -30,7 +30,7 @@ use Rattle.plan.specs.declared.Plan.{Plan}
 use Rattle.plan.proofs.Held.{allocation_is}
 use Rattle.patterns.specs.Pattern.{Shared, shared_of, fund_at, bound_at, coefficient_at, constant_at, value_at, flow_fits, coefficients_fit, constant_fits, coefficients_at}
 use Rattle.planner.specs.Calls.{exact_fund, bound_of}
-use Rattle.planner.specs.Verdict.{row_fits_law, fund_of}
+use Rattle.planner.specs.Verdict.{row_fits, fund_of}
 use Rattle.planner.proofs.Demand3.{pattern_form_close, fund_below}
 use Rattle.finder.specs.Lines.{line_from, over_all, line_of, fund_passes, height_over, Line}
 
@@ -176,8 +176,8 @@ module _ (plan : Plan) (ok : Accepted (numbers plan)) (t : ℕ) where
 
     -- so what is looked at, the line and then the pattern, is what the verdict asks of it: check 11 for all of its row, and a fund of zero
     -- or more
-    pub looked_at : both (le_z (pos 0) (height_over (line_of S i) plan.allocation)) (fund_passes S i) ≡ both (row_fits_law S i) (le_z (pos 0) (fund_at S i))
-    unfolding fund_passes row_fits_law
+    pub looked_at : both (le_z (pos 0) (height_over (line_of S i) plan.allocation)) (fund_passes S i) ≡ both (row_fits S i) (le_z (pos 0) (fund_at S i))
+    unfolding fund_passes row_fits
     looked_at = go (le_z (pos 0) (height_over (line_of S i) plan.allocation)) (flow_fits S i) form_fits_law (le_z (pos 0) (fund_at S i)) refused_below funded_over
       where
         go : (l f k z : Bool) → (k ≡ false → l ≡ false) → (z ≡ true → k ≡ true → l ≡ true) → both l (both f z) ≡ both (both f k) z

@@ -22,7 +22,7 @@ use Rattle.patterns.specs.Pattern.{Shared, shared_of, fund_at, bound_at, coeffic
 use Rattle.patterns.specs.Arrays.{rollover_array, rates_array, constant_array, payments_row, payments_rows, common_of, shared_in, Prepared}
 use Rattle.patterns.specs.declared.Common.{Common}
 use Rattle.patterns.proofs.Held.{prepared_is, shared_is, shares_are, rates_ready, rates_are}
-use Rattle.planner.specs.Verdict.{row_fits_law}
+use Rattle.planner.specs.Verdict.{row_fits}
 use Rattle.finder.specs.Find.{allocated, solvent_with}
 use Rattle.finder.specs.Lines.{line_of, fund_passes, lines_of, height_over, below_none, wide_of, common_with, looked, passes, Searchable}
 use Rattle.finder.proofs.Order.{wide_at}
@@ -92,7 +92,7 @@ module _ (plan : Plan) (ok : Accepted (numbers plan)) (few : plan.instruments �
 
       -- no line sees the allocation: those of the plan with these shares are the plan's own
       looked_with : (t : ℕ) → both (le_z (pos 0) (height_over (line_of (shared_of (numbers plan)) (rate_in t)) (wide_of shares))) (fund_passes S (rate_in t))
-          ≡ both (row_fits_law S (rate_in t)) (le_z (pos 0) (fund_at S (rate_in t)))
+          ≡ both (row_fits S (rate_in t)) (le_z (pos 0) (fund_at S (rate_in t)))
       unfolding line_of bound_at coefficient_at constant_at coefficients_fit constant_fits coefficients_at instruments_held outflows_held rollover_held patterns_held allocation_held opening_held cost_held
       looked_with t = looked_at (replaced plan (wide_of shares)) replaced_ok t few
 

@@ -22,7 +22,7 @@ use Rattle.plan.specs.declared.Plan.{Plan}
 use Rattle.plan.proofs.Checks.{accepted_none}
 use Rattle.patterns.specs.Pattern.{shared_of, fund_at}
 use Rattle.planner.specs.Calls.{exact_fund}
-use Rattle.planner.specs.Verdict.{solvent, short, close, word_of, bits_of, plan_word_of, no_verdict, row_fits_law, word_at, pattern_word, verdict_refusal, short_bits, plan_word, verdict_answer}
+use Rattle.planner.specs.Verdict.{solvent, short, close, word_of, bits_of, plan_word_of, no_verdict, row_fits, word_at, pattern_word, verdict_refusal, short_bits, plan_word, verdict_answer}
 use Rattle.planner.specs.Demand3.{VerdictTrue}
 use Rattle.planner.specs.declared.VerdictAnswer.{VerdictAnswer}
 use Rattle.planner.proofs.Bits.{none_bits}
@@ -115,7 +115,7 @@ all_both (suc m) p q = swap (all m p) (p m) (all m q) (q m) ∙ ap (λ (b : Bool
 -- the verdict on an accepted plan is solvent exactly if in every pattern check 11 takes the row and the fund is zero or more
 module _ (P : Numbers) where
   abbrev fits_in : (t : ℕ) → Bool
-  fits_in t = row_fits_law (shared_of P) (P.i (1 + t))
+  fits_in t = row_fits (shared_of P) (P.i (1 + t))
 
   abbrev funded_in : (t : ℕ) → Bool
   funded_in t = le_z (pos 0) (fund_at (shared_of P) (P.i (1 + t)))
@@ -134,7 +134,7 @@ module _ (P : Numbers) where
 -- and so it is with other shares
 module _ (plan : Plan) (ok : Accepted (numbers plan)) (shares : List ℕ) (whole : sum_ℕ plan.instruments (λ j. get_or shares j 0) ≡ million) where
   pub solvent_is : solvent_with (numbers plan) shares ≡ all plan.patterns (λ t.
-      both (row_fits_law (shared_of (allocated (numbers plan) shares)) ((numbers plan).i (1 + t))) (le_z (pos 0) (fund_at (shared_of (allocated (numbers plan) shares)) ((numbers plan).i (1 + t)))))
+      both (row_fits (shared_of (allocated (numbers plan) shares)) ((numbers plan).i (1 + t))) (le_z (pos 0) (fund_at (shared_of (allocated (numbers plan) shares)) ((numbers plan).i (1 + t)))))
   unfolding solvent_with
   solvent_is = verdict_is (allocated (numbers plan) shares) (accepted_with plan ok shares whole)
 

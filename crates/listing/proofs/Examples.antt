@@ -26,7 +26,7 @@ use Rattle.planner.specs.Verdict.{
   word_of,
   bits_of,
   no_pattern_row,
-  row_fits_law,
+  row_fits,
   word_at,
   row_at,
   fund_of,
@@ -90,7 +90,7 @@ unfolding judgement_text lines_text line_text amounts_text fields signed_text di
 text_L = refl
 
 pub judged_L : judgement_of (numbers plan_L) ≡ judgement_L
-unfolding judgement_of verdict_answer verdict_refusal rows_of row_of row_at row_fits_law fund_of pattern_word word_at short_bits plan_word word_of bits_of
+unfolding judgement_of verdict_answer verdict_refusal rows_of row_of row_at row_fits fund_of pattern_word word_at short_bits plan_word word_of bits_of
     flow_of fund_at bound_at coefficient_at constant_at flow_fits coefficients_fit constant_fits coefficients_at bound_of
     refusal_of head_refusal amounts_refusal rates_refusal allocation_refusal head_ok payments_ok payments_fit outflows_ok opening_ok cost_ok amounts_ok rollover_ok untils_ok rates_ok rates_fit allocation_ok
     instruments_held outflows_held rollover_held patterns_held allocation_held opening_held cost_held exact_left_of left_of left

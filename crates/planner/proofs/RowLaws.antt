@@ -22,7 +22,7 @@ use Rattle.patterns.specs.declared.Coefficients.{Coefficients}
 use Rattle.patterns.proofs.FormLoops.{coefficients_refused, coefficients_fit_law, coefficients_are}
 use Rattle.patterns.proofs.FormLaws.{bound_is, constant_is}
 use Rattle.patterns.proofs.Reckoned.{reckoned_refused, reckoned_fits, reckoned_is}
-use Rattle.planner.specs.Verdict.{word_of, no_pattern_row, row_fits_law, word_at, row_at, pattern_word, row_of}
+use Rattle.planner.specs.Verdict.{word_of, no_pattern_row, row_fits, word_at, row_at, pattern_word, row_of}
 use Rattle.planner.specs.Rows.{refused_row, row_reckoned}
 use Rattle.planner.specs.declared.PatternRow.{PatternRow}
 use Rattle.planner.specs.declared.OneRow.{OneRow}
@@ -30,22 +30,22 @@ use Rattle.planner.specs.declared.OneRow.{OneRow}
 -- ---- the ways out of a pattern
 module _ (S : Shared) (i : ℕ → ℤ) {c : Reckoned} (e : c ≡ flow_reckoned S i) where
   pub row_unfunded : (c.refusal ≡ 0 → ⊥) → refused_row ≡ row_reckoned S i
-  unfolding row_reckoned row_fits_law flow_fits
+  unfolding row_reckoned row_fits flow_fits
   row_unfunded h = rw (reckoned_refused S.r i (flow_of S) S.years (left_of S) e h)
 
   module _ {k : Coefficients} (g : k ≡ coefficients_reckoned S i) where
     pub row_unformed : (k.refusal ≡ 0 → ⊥) → refused_row ≡ row_reckoned S i
-    unfolding row_reckoned row_fits_law
+    unfolding row_reckoned row_fits
     row_unformed h = rw (coefficients_refused S i g h, both_not (flow_fits S i))
 
     module _ {d : Reckoned} (u : d ≡ fund_reckoned S.r i S.constant_flow S.years (pos 0)) where
       pub row_unbalanced : (d.refusal ≡ 0 → ⊥) → refused_row ≡ row_reckoned S i
-      unfolding row_reckoned row_fits_law constant_fits
+      unfolding row_reckoned row_fits constant_fits
       row_unbalanced h = rw (reckoned_refused S.r i S.constant_flow S.years (pos 0) u h, both_not (coefficients_fit S i), both_not (flow_fits S i))
 
       pub row_made : c.refusal ≡ 0 → k.refusal ≡ 0 → d.refusal ≡ 0 → {b : ℤ} {w : ℕ} → b ≡ pos (B (h i S.years) S.years + flag S.costed) → w ≡ word_of c.fund b (pos 0) →
           record { refusal = 0; row = record { word = w; fund = c.fund; bound = b; coefficients = k.values; constant = d.fund } } ≡ row_reckoned S i
-      unfolding row_reckoned row_fits_law row_at word_at fund_at flow_fits constant_fits
+      unfolding row_reckoned row_fits row_at word_at fund_at flow_fits constant_fits
       row_made c-ok k-ok d-ok b_is w-is = rw (
         w-is,
         b_is ∙ ap (λ (b : ℕ). pos b) (bound_is S i),
@@ -78,22 +78,22 @@ module _ {m : ℕ} {each : ℕ → OneRow} where
 
 -- ---- what the row of a pattern tells
 module _ (S : Shared) (i : ℕ → ℤ) {c : OneRow} (e : c ≡ row_reckoned S i) where
-  row_refused : (c.refusal ≡ 0 → ⊥) → row_fits_law S i ≡ false
+  row_refused : (c.refusal ≡ 0 → ⊥) → row_fits S i ≡ false
   unfolding row_reckoned
-  row_refused = picked_no (λ (c : OneRow). c.refusal) _ _ refl (λ z. omega arith) (row_fits_law S i) c e
+  row_refused = picked_no (λ (c : OneRow). c.refusal) _ _ refl (λ z. omega arith) (row_fits S i) c e
 
-  row_fits : c.refusal ≡ 0 → row_fits_law S i ≡ true
+  row_fits_law : c.refusal ≡ 0 → row_fits S i ≡ true
   unfolding row_reckoned
-  row_fits = picked_yes (λ (c : OneRow). c.refusal) _ _ refl (λ z. omega arith) (row_fits_law S i) c e
+  row_fits_law = picked_yes (λ (c : OneRow). c.refusal) _ _ refl (λ z. omega arith) (row_fits S i) c e
 
   row_is : c.refusal ≡ 0 → c.row ≡ row_at S i
   unfolding row_reckoned
-  row_is h = ap (λ (c : OneRow). c.row) (picked_is (λ (c : OneRow). c.refusal) _ _ refl (λ z. omega arith) (row_fits_law S i) c e h)
+  row_is h = ap (λ (c : OneRow). c.row) (picked_is (λ (c : OneRow). c.refusal) _ _ refl (λ z. omega arith) (row_fits S i) c e h)
 
 -- ---- the ways out of the loop, where each row is that of a plan's pattern
 module _ (P : Numbers) {each : ℕ → OneRow} (same : (t : ℕ) → t < P.patterns → each t ≡ row_reckoned (shared_of P) (P.i (1 + t))) where
-  pub rows_refuse : {t : ℕ} {c : OneRow} → t < P.patterns → c ≡ each t → (c.refusal ≡ 0 → ⊥) → all P.patterns (λ t. row_fits_law (shared_of P) (P.i (1 + t))) ≡ false
-  rows_refuse {t} l e h = all_fails P.patterns (λ t. row_fits_law (shared_of P) (P.i (1 + t))) t l (row_refused (shared_of P) (P.i (1 + t)) (e ∙ same t l) h)
+  pub rows_refuse : {t : ℕ} {c : OneRow} → t < P.patterns → c ≡ each t → (c.refusal ≡ 0 → ⊥) → all P.patterns (λ t. row_fits (shared_of P) (P.i (1 + t))) ≡ false
+  rows_refuse {t} l e h = all_fails P.patterns (λ t. row_fits (shared_of P) (P.i (1 + t))) t l (row_refused (shared_of P) (P.i (1 + t)) (e ∙ same t l) h)
 
   module _ {words : List ℕ} {rows : List PatternRow} {t : ℕ} (l : P.patterns ≤ t) (a : Rowed P.patterns each words rows t) where
     none : (s : ℕ) → s < P.patterns → (each s).refusal ≡ 0
@@ -103,8 +103,8 @@ module _ (P : Numbers) {each : ℕ → OneRow} (same : (t : ℕ) → t < P.patte
     unfolding row_of
     row_at_law s h = row_is (shared_of P) (P.i (1 + s)) (same s h) (none s h)
 
-    pub rows_fit : all P.patterns (λ t. row_fits_law (shared_of P) (P.i (1 + t))) ≡ true
-    rows_fit = all_yes P.patterns _ (λ s h. row_fits (shared_of P) (P.i (1 + s)) (same s h) (none s h))
+    pub rows_fit : all P.patterns (λ t. row_fits (shared_of P) (P.i (1 + t))) ≡ true
+    rows_fit = all_yes P.patterns _ (λ s h. row_fits_law (shared_of P) (P.i (1 + s)) (same s h) (none s h))
 
     pub words_are : words ≡ table 64 P.patterns (λ t. pattern_word P (1 + t)) 0
     unfolding row_of row_at pattern_word

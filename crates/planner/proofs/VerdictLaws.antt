@@ -26,7 +26,7 @@ use Rattle.planner.specs.Verdict.{
   plan_word_of,
   no_verdict,
   no_pattern_row,
-  row_fits_law,
+  row_fits,
   pattern_word,
   row_of,
   verdict_refusal,
@@ -69,11 +69,11 @@ module _ (P : Numbers) where
   plan_refuses e h = e ∙ sym (first_some (refusal_of P) _ (λ z. h (e ∙ z)))
 
   module _ (ok : Accepted P) where
-    pub pattern_refuses : all P.patterns (λ t. row_fits_law (shared_of P) (P.i (1 + t))) ≡ false → 11 ≡ verdict_refusal P
+    pub pattern_refuses : all P.patterns (λ t. row_fits (shared_of P) (P.i (1 + t))) ≡ false → 11 ≡ verdict_refusal P
     unfolding verdict_refusal
     pattern_refuses e = rw (accepted_none ok, e)
 
-    none_refuses : all P.patterns (λ t. row_fits_law (shared_of P) (P.i (1 + t))) ≡ true → verdict_refusal P ≡ 0
+    none_refuses : all P.patterns (λ t. row_fits (shared_of P) (P.i (1 + t))) ≡ true → verdict_refusal P ≡ 0
     unfolding verdict_refusal
     none_refuses e = rw (accepted_none ok, e)
 
@@ -82,7 +82,7 @@ module _ (P : Numbers) where
   unfolding judgement_of verdict_answer rows_of
   judge_refused e h = ap₂ judgement (out_refused no_verdict _ e h) (out_refused (λ n. replicate 64 no_pattern_row) _ e h)
 
-  pub judge_made : Accepted P → all P.patterns (λ t. row_fits_law (shared_of P) (P.i (1 + t))) ≡ true → {words : List ℕ} {rows : List PatternRow} {v : VerdictAnswer} →
+  pub judge_made : Accepted P → all P.patterns (λ t. row_fits (shared_of P) (P.i (1 + t))) ≡ true → {words : List ℕ} {rows : List PatternRow} {v : VerdictAnswer} →
       words ≡ table 64 P.patterns (λ t. pattern_word P (1 + t)) 0 → rows ≡ table 64 P.patterns (λ t. row_of P (1 + t)) no_pattern_row → v ≡ verdict_of P.patterns words →
       record { verdict = v; rows = rows } ≡ judgement_of P
   unfolding judgement_of verdict_answer rows_of short_bits plan_word

@@ -6,7 +6,7 @@ use Rattle.planner.specs.declared.PatternRow.{PatternRow}
 use Rattle.planner.specs.declared.OneRow.{OneRow}
 use Rattle.planner.specs.declared.VerdictAnswer.{VerdictAnswer}
 use Rattle.planner.specs.declared.Judgement.{Judgement}
-use Rattle.planner.specs.Verdict.{short, row_fits_law, row_at, bits_of, plan_word_of, no_verdict, no_pattern_row}
+use Rattle.planner.specs.Verdict.{short, row_fits, row_at, bits_of, plan_word_of, no_verdict, no_pattern_row}
 
 -- what a refusal holds
 abbrev pub refused_row : OneRow
@@ -18,7 +18,7 @@ no_judgement number = record { verdict = no_verdict number; rows = replicate 64 
 -- the row of a pattern of the rates i, unless check 11 refuses one of the flows
 module _ (S : Shared) (i : ℕ → ℤ) where
   unfoldable pub row_reckoned : OneRow
-  row_reckoned = pick (row_fits_law S i) (record { refusal = 0; row = row_at S i }) refused_row
+  row_reckoned = pick (row_fits S i) (record { refusal = 0; row = row_at S i }) refused_row
 
 -- the row at a place, counted from 0
 abbrev pub row_in : List PatternRow → (t : ℕ) → PatternRow

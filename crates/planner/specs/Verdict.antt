@@ -44,8 +44,8 @@ no_pattern_row = record { word = 0; fund = pos 0; bound = pos 0; coefficients = 
 -- ---- what a pattern of the rates i comes to
 module _ (S : Shared) (i : ℕ → ℤ) where
   -- check 11 for all that it reckons: the allocation's flow, every instrument and the flow of Q
-  unfoldable pub row_fits_law : Bool
-  row_fits_law = both (flow_fits S i) (both (coefficients_fit S i) (constant_fits S i))
+  unfoldable pub row_fits : Bool
+  row_fits = both (flow_fits S i) (both (coefficients_fit S i) (constant_fits S i))
 
   -- its word, by its fund with what is left inside and B, against 0
   unfoldable pub word_at : ℕ
@@ -74,7 +74,7 @@ module _ (P : Numbers) where
 
   -- the verdict's checks: 3 and 6 to 9, with 13 right before 8, then 11 in every pattern
   unfoldable pub verdict_refusal : ℕ
-  verdict_refusal = first_of (refusal_of P) (check (all P.patterns (λ t. row_fits_law (shared_of P) (P.i (1 + t)))) 11 0)
+  verdict_refusal = first_of (refusal_of P) (check (all P.patterns (λ t. row_fits (shared_of P) (P.i (1 + t)))) 11 0)
 
   -- bit t - 1 is set if pattern t is short
   unfoldable pub short_bits : ℕ
