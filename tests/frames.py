@@ -77,9 +77,14 @@ def instructions(lines):
     return found
 
 
-def moved(depth, one):
+def moved(depth, one, mark, base):
     """The depth after an instruction that is no jump."""
     op, operands = one.op.rstrip("q"), one.operands
+    if op == "mov" and operands[-1] == "%rsp" and mark and operands[0] == mark[0]:
+        return mark[1]
+    off = re.fullmatch(r"-(0x[0-9a-f]+)\(%rbp\)", operands[0]) if op == "lea" and operands[-1] == "%rsp" else None
+    if off and base is not None:
+        return base + int(off[1], 16)
     if op == "push" or op == "pop" and not STACK_POINTER.match(operands[0]):
         return depth + (WORD if op == "push" else -WORD)
     if op in ("sub", "add") and operands[-1] == "%rsp" and number(operands[0]) is not None:
@@ -96,14 +101,30 @@ def reached(depth, one):
 
 
 def marked(mark, depth, one):
-    """The depth that r11 points to: how far a loop goes that touches a large frame page by page."""
-    if not one.operands or one.operands[-1] != "%r11" or one.op in ("cmp", "test"):
+    """A register and the depth that it points to: how far a loop goes that touches a large frame page by page."""
+    if one.op == "call":
+        return None
+    to = one.operands[-1] if one.operands and one.op not in ("cmp", "test") else ""
+    if one.op == "mov" and one.operands[0] == "%rsp" and re.fullmatch(r"%r\w+", to):
+        return to, depth
+    if mark is None or alias(to) != alias(mark[0]):
         return mark
-    if one.op == "mov" and one.operands[0] == "%rsp":
-        return depth
-    if one.op == "sub" and mark is not None and number(one.operands[0]) is not None:
-        return mark + number(one.operands[0])
+    if one.op == "sub" and to == mark[0] and number(one.operands[0]) is not None:
+        return to, mark[1] + number(one.operands[0])
     return None
+
+
+def alias(register):
+    """A register's own letters: %esi, %si and %sil are parts of %rsi."""
+    return re.sub(r"^%[re]?|(?<=\d)[dwb]$|(?<=[sdb][ip])l$", "", register)
+
+
+def based(base, depth, one):
+    """The depth that rbp points to, where it is the base of the frame."""
+    if one.op == "mov" and one.operands == ["%rsp", "%rbp"]:
+        return depth
+    written = one.operands and one.op not in ("cmp", "test", "push") and alias(one.operands[-1]) == "bp"
+    return None if written else base
 
 
 class Walk:
@@ -114,11 +135,11 @@ class Walk:
         self.order = sorted(body)
         self.next = dict(zip(self.order, self.order[1:]))
         self.depth, self.calls, self.switches = {}, set(), set()
-        self.left = [(self.order[0], WORD, None)]
+        self.left = [(self.order[0], WORD, None, None)]
         self.run()
         while len(self.switches) == 1 and self.unreached():
             # the places that a jump by a table goes to, which is not read here; they have the depth of the jump
-            self.left.append((self.unreached()[0], *self.switches, None))
+            self.left.append((self.unreached()[0], *self.switches, None, None))
             self.run()
         if self.unreached():
             raise Unread(f"{name}: nothing leads to {self.unreached()[0]:x}")
@@ -129,17 +150,17 @@ class Walk:
 
     def run(self):
         while self.left:
-            at, depth, mark = self.left.pop()
+            at, depth, mark, base = self.left.pop()
             if at not in self.body:
                 raise Unread(f"{self.name}: a path leaves it at {at:x}")
             if self.depth.setdefault(at, depth) != depth:
                 raise Unread(f"{self.name}: {at:x} is reached at two depths")
-            for place, below, to in self.after(at, depth, mark):
+            for place, below, to, frame in self.after(at, depth, mark, base):
                 if self.depth.get(place) != below:
-                    self.left.append((place, below, to))
+                    self.left.append((place, below, to, frame))
 
-    def after(self, at, depth, mark):
-        """What comes after an instruction: the places, their depths and marks."""
+    def after(self, at, depth, mark, base):
+        """What comes after an instruction: the places, their depths, their marks and the bases of their frames."""
         one = self.body[at]
         if one.op == "ret" and depth != WORD:
             raise Unread(f"{self.name}: {at:x} returns from depth {depth}")
@@ -148,8 +169,8 @@ class Walk:
         if one.op == "call":
             self.called(depth, one)
         if not one.op.startswith("j"):
-            return [(self.next.get(at, -1), moved(depth, one), marked(mark, depth, one))]
-        on = [] if one.op == "jmp" else [(self.next.get(at, -1), depth, mark)]
+            return [(self.next.get(at, -1), moved(depth, one, mark, base), marked(mark, depth, one), based(base, depth, one))]
+        on = [] if one.op == "jmp" else [(self.next.get(at, -1), depth, mark, base)]
         if one.operands[0].startswith("*"):
             # by a table, to another place of the function: one that leaves it has taken its frame away before
             if depth == WORD:
@@ -161,9 +182,28 @@ class Walk:
             return on
         target = int(one.operands[0].split()[0], 16)
         before = self.body[self.order[self.order.index(at) - 1]]
-        if mark is not None and target < at and before == ("cmp", ["%r11", "%rsp"], None):
-            return [(self.next[at], mark, None)]  # round and round until the stack pointer is there
-        return on + [(target, depth, mark)]
+        if mark is not None and target < at and before == ("cmp", [mark[0], "%rsp"], None):
+            return [(self.next[at], mark[1], None, base)]  # round and round until the stack pointer is there
+        if mark is not None and self.is_block(at, target, mark[0]):
+            # a part of the frame that is made here: no turn goes further than one step past where the register points to
+            inside = self.order[self.order.index(at) + 1:self.order.index(target)]
+            self.depth.update((each, mark[1] + number(self.body[inside[1]].operands[0])) for each in inside)
+            return [(target, depth, mark, base)]
+        return on + [(target, depth, mark, base)]
+
+    def is_block(self, at, target, register):
+        """Whether a jump goes past a loop that touches a part of the frame step by step, until the stack pointer is past where a register
+        points to, and to where the stack pointer is then put."""
+        here = self.order.index(at)
+        near = [self.body[each] for each in self.order[here - 1:here + 7]]
+        if len(near) < 7 or self.order[here + 5:here + 6] != [target]:
+            return False
+        compared = ("cmp", ["%rsp", register], None)
+        step = near[3].op == "sub" and near[3].operands[-1] == "%rsp" and number(near[3].operands[0])
+        turns = near[5].op == "jl" and not near[5].callee and int(near[5].operands[0].split()[0], 16) == self.order[here + 1]
+        touches = near[2] == ("xorq", ["$0x0", "(%rsp)"], None)
+        put = near[6] == ("mov", [register, "%rsp"], None)
+        return near[0] == compared == near[4] and near[1].op == "jge" and touches and bool(step) and turns and put
 
     def called(self, depth, one):
         if not one.callee:

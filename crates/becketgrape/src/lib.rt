@@ -1,5 +1,6 @@
 // The planner for programs in C: every call over a plan file's bytes, its answer in lent buffers. include/planner.h declares them.
 #![tactic(auto)]
+
 ghost use Rattle.std.specs.Prelude.{◌≡◌, ◌≤◌, eqb, take};
 ghost use Rattle.io.specs.Counts.{IsPrefixLen};
 ghost use Rattle.listing.specs.Text.{text_of};

@@ -300,6 +300,7 @@ fn put_rates(plan: Plan, rows: &mut [[i64; 30]; 64])
 }
 
 // The search in so many parts, for a plan of at most four instruments that was already checked.
+#[inline(never)]
 fn search(plan: Plan, parts: u32) -> FindAnswer
     requires accepted { Accepted (numbers plan) }
     requires instruments_bound { plan.instruments ≤ 4 }

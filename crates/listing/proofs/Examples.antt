@@ -15,7 +15,7 @@ use Rattle.whole.specs.Test.{all, is_between}
 use Rattle.reckoning.specs.Reckoning.{w, paid, left, flow, sent, alpha_step, alpha, fund}
 use Rattle.reckoning.specs.Bound.{h, ceiling, G, B}
 use Rattle.reckoning.specs.Arrays.{alphas_fit, fund_fits}
-use Rattle.plan.specs.Held.{instruments_held, outflows_held, rollover_held, patterns_held, allocation_held, opening_held, cost_held}
+use Rattle.plan.specs.Held.{no_plan, instruments_held, outflows_held, rollover_held, patterns_held, allocation_held, opening_held, cost_held}
 use Rattle.plan.specs.Numbers.{numbers}
 use Rattle.plan.specs.Refusal.{answer, head_ok, payments_fit, payments_ok, outflows_ok, opening_ok, cost_ok, amounts_ok, rollover_ok, untils_ok, rates_fit, rates_ok, allocation_ok, head_refusal, amounts_refusal, rates_refusal, allocation_refusal, refusal_of}
 use Rattle.plan.specs.declared.Plan.{Plan}
@@ -102,7 +102,7 @@ answered_L : read_answer file_L ≡ record { refusal = 0; plan = plan_L }
 unfolding read_answer
 answered_L =
     let none : read_refusal file_L ≡ 0 = ap (λ (l : List ℕ). get_or l 0 1) refused_near in
-    answer_accepted _ (read_refusal file_L) _ none ∙ ap (λ (plan : Plan). record { refusal = 0; plan = plan }) read_L
+    answer_accepted (λ (n : ℕ). record { refusal = n; plan = no_plan }) (read_refusal file_L) _ none ∙ ap (λ (plan : Plan). record { refusal = 0; plan = plan }) read_L
 
 -- from the bytes of the file to the bytes that are printed
 pub printed_L : text_of file_L ≡ text_L_law

@@ -1,5 +1,6 @@
 // The text of a listing, put into a lent buffer. Each function answers the place after what it put down.
 #![tactic(auto)]
+
 ghost use Rattle.std.specs.Prelude.{◌≡◌, [], ◌∷◌, ◌+◌, ◌*◌, ◌%◌, ◌≤◌, pos, length};
 ghost use Rattle.std.specs.Int.Count.{ones};
 ghost use Rattle.io.specs.Counts.{IsPrefixLen};

@@ -50,6 +50,7 @@ fn call_refusal(plan: Plan, t: usize) -> u8
 
 // The fund of the plan's allocation in pattern t, which counts from 1; 0 on a refusal: 3, 6 to 11 or 13. At level rates another rollover
 // moves it by less than the bound.
+#[inline(never)]
 pub fn fund(plan: Plan, t: usize) -> Reckoned
     ensures is { result ≡ fund_answer (numbers plan) t }
     ensures near { FundNear (numbers plan) t result }
@@ -108,6 +109,7 @@ pub fn form(plan: Plan, t: usize) -> FormAnswer
 }
 
 // The table of gammas of pattern t; zeros on a refusal: 3, 6 to 11 or 13.
+#[inline(never)]
 pub fn gammas(plan: Plan, t: usize) -> GammaTable
     ensures { result ≡ gammas_answer (numbers plan) t }
 {

@@ -1,4 +1,3 @@
--- The laws of the reader: how its functions over a `Reader` are walked, the plan after some of a file's records, and what is answered.
-pub mod Walk
+-- The laws of the reader: the plan after some of a file's records, and what is answered.
 pub mod Filling
 pub mod Answer

@@ -1,5 +1,6 @@
 // Plan files, read into a plan held as values.
 #![tactic(auto)]
+
 ghost use Rattle.std.specs.Prelude.{◌≡◌, true, ◌*◌, ◌≤◌, pos, length, replicate};
 ghost use Rattle.records.specs.Cursor.{next_at, whole_file};
 ghost use Rattle.plan.specs.Held.{no_plan, plan_from};
@@ -362,6 +363,7 @@ fn no_plan() -> Plan
 
 // The plan that the records of a file hold, which has passed checks 1 to 5: a record's kind decides the reading of its body, and its spot
 // which instrument or pattern it is. After check 4 what is no kind does not come up, nor does the file end too soon.
+#[inline(never)]
 fn plan_in(file: &[u8], shape: Shape) -> Plan
     requires { Laid file.now shape }
     ensures { result ≡ plan_from (held_of shape (record_in file.now shape)) }

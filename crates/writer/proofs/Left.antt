@@ -25,7 +25,10 @@ module _ (plan : Plan) (buffer : List ℕ) where
 
   refused : (n : ℕ) → write_refusal plan buffer ≡ n → (n ≡ 0 → ⊥) → Left (record { refusal = n; length = 0 }) buffer
   unfolding write_answer buffer_after
-  refused n e h = (rw e (sym (answer_refused _ n _ h)), (rw e (sym (answer_refused _ n _ h)), λ z. absurd (h z)))
+  refused n e h = (
+    rw e (sym (answer_refused (λ m. record { refusal = m; length = 0 }) n (record { refusal = 0; length = length (file_of (held plan)) }) h)),
+    (rw e (sym (answer_refused (λ m. buffer) n (sets buffer 0 (file_of (held plan))) h)), λ z. absurd (h z)),
+  )
 
   pub refused_plan : {n : ℕ} → n ≡ refusal_of (numbers plan) → (n ≡ 0 → ⊥) → Left (record { refusal = n; length = 0 }) buffer
   unfolding write_refusal
@@ -41,6 +44,6 @@ module _ (plan : Plan) (buffer : List ℕ) where
     unfolding write_refusal write_answer buffer_after
     written typed {n} {buffer'} e s h =
         let i : write_refusal plan buffer ≡ 0 = rw (ok, ← e, le-leb n _ h) in
-        let is : record { refusal = 0; length = n } ≡ write_answer plan buffer = rw e (sym (answer_accepted _ _ _ i)) in
-        let after : buffer' ≡ buffer_after plan buffer = s ∙ sym (answer_accepted _ _ _ i) in
+        let is : record { refusal = 0; length = n } ≡ write_answer plan buffer = rw e (sym (answer_accepted (λ m. record { refusal = m; length = 0 }) _ _ i)) in
+        let after : buffer' ≡ buffer_after plan buffer = s ∙ sym (answer_accepted (λ m. buffer) _ _ i) in
         (is, (after, file_written plan buffer typed is after))

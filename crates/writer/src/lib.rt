@@ -1,5 +1,6 @@
 // The writer of plan files: a plan's records, one after the other, into a lent buffer.
 #![tactic(auto)]
+
 ghost use Rattle.std.specs.Prelude.{◌≡◌, ◌++◌, ◌+◌, ◌≤◌, ◌<◌, pos, length, take};
 ghost use Rattle.little_endian.specs.LittleEndian.{bytes_of};
 ghost use Rattle.little_endian.specs.Wrote.{Room, Wrote};

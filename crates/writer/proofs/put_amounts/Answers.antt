@@ -1,0 +1,38 @@
+-- `writer::put_amounts` puts down number after number.
+use mathlib.Core.Path.{sym, ap, ◌∙◌}
+use native.Mathlib.Omega.{arith}
+use borrow.Author.Rules.{rules}
+use mir.Syntax.{w64}
+use mir.Facts.{to_z-of_z}
+use lib.IntN.{pos}
+use Rattle.whole.proofs.Entry.{entry_at}
+use Rattle.little_endian.specs.TwosComplement.{unsigned_of}
+use Rattle.little_endian.proofs.Wrote.{room_more, putting_all, run_turn}
+use Rattle.writer.proofs.Record.{run_from}
+use Rattle.writer.proofs.put_amounts.Goals as goal
+
+pub loop-k-init : goal.loop-k-init
+loop-k-init c = run_from 8 _ c.before.requires.room
+
+pub put_i64-requires : goal.put_i64-requires
+put_i64-requires c =
+    let d = c.before.before in
+    room_more d.before.loop-k.invariant d.loop-k-test.true
+
+pub overflow_add-place : goal.overflow_add-place
+overflow_add-place c =
+    let d = c.before.before.before.before.before in
+    omega (arith, room_more d.before.loop-k.invariant d.loop-k-test.true, d.before.loop-k.invariant.length_kept)
+
+pub loop-k-preserved : goal.loop-k-preserved
+loop-k-preserved c =
+    let d = c.before.before.before.before.before in
+    let l = d.loop-k-test.true in
+    run_turn 8 _ d.before.loop-k.invariant l c.before.before.put_i64.ensures
+    (ap (unsigned_of 8) (to_z-of_z {w = w64} (search rules) ∙ sym (entry_at (pos 0) _ _ _ l)))
+
+pub shape_of-b : goal.shape_of-b
+shape_of-b c = c.before.loop-k.invariant.length_kept
+
+pub returns : goal.returns
+returns c = putting_all c.before.loop-k.invariant c.loop-k-test.false
