@@ -229,6 +229,7 @@ fn reckon(flow: &[i64; 30], lending: &[i64; 30], borrowing: &[i64; 30], years: u
 }
 
 // The answer for a plan whose head is in its ranges, and for lists of as many rates as it asks for.
+#[inline(never)]
 fn cash_at(plan: Plan, lending: [i64; 30], borrowing: [i64; 30]) -> CashAnswer
     requires head { Head (numbers plan) }
     requires padded { Padded plan.years lending }

@@ -363,7 +363,6 @@ fn no_plan() -> Plan
 
 // The plan that the records of a file hold, which has passed checks 1 to 5: a record's kind decides the reading of its body, and its spot
 // which instrument or pattern it is. After check 4 what is no kind does not come up, nor does the file end too soon.
-#[inline(never)]
 fn plan_in(file: &[u8], shape: Shape) -> Plan
     requires { Laid file.now shape }
     ensures { result ≡ plan_from (held_of shape (record_in file.now shape)) }
