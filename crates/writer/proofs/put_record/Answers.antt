@@ -1,6 +1,7 @@
 -- `writer::put_record` puts down the record that its role asks for.
 use mathlib.Core.Path.{◌≡◌}
 use native.Mathlib.Omega.{arith}
+use borrow.Author.Rules.{rules}
 use Rattle.whole.specs.Entry.{nth}
 use Rattle.plan.specs.Held.{outflows_held, rollover_held, allocation_held, held}
 use Rattle.planfile.specs.Records.{record_of}
@@ -25,7 +26,7 @@ put_amounts_record-requires-clause-room c = let key : c.args.role ≡ 3 = omega 
 
 pub returns-in-3 : goal.returns-in-3
 unfolding record_of nth outflows_held
-returns-in-3 c = let key : c.args.role ≡ 3 = omega arith in rw key c.put_amounts_record.ensures
+returns-in-3 c = let key : c.args.role ≡ 3 = omega arith in rw key (search rules)
 
 -- ---- 4: the rollover
 pub put_shares_record-requires-clause-room : goal.put_shares_record-requires-clause-room
@@ -34,7 +35,7 @@ put_shares_record-requires-clause-room c = let key : c.args.role ≡ 4 = omega a
 
 pub returns-in-4 : goal.returns-in-4
 unfolding record_of nth rollover_held
-returns-in-4 c = let key : c.args.role ≡ 4 = omega arith in rw key c.put_shares_record.ensures
+returns-in-4 c = let key : c.args.role ≡ 4 = omega arith in rw key (search rules)
 
 -- ---- 6: the allocation
 pub put_shares_record-requires-in-6-clause-room : goal.put_shares_record-requires-in-6-clause-room
