@@ -64,6 +64,12 @@ def wrongs(edit):
     return found
 
 
+def checked_as(edit, file, function):
+    """The name by which a check prints a function of a file: its crate, its module, its type and its own."""
+    modules = [part for part in file.removeprefix("src/").removesuffix(".rt").split("/") if part not in ("lib", "main", "mod")]
+    return "::".join([edit.crate, *modules, function.path])
+
+
 def edited(edit, wrong):
     """The files that a wrong program changes, as it has them. It stands without the others that share its file."""
     texts = {}

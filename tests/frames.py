@@ -12,7 +12,7 @@ import subprocess
 # At an address: the operation, its operands, and the name of the function that it calls or jumps to, if there is one.
 Instruction = collections.namedtuple("Instruction", "op operands callee")
 
-LINE = re.compile(r"\s*([0-9a-f]+):\t([^\t#]*?)\s*(?:#[^\t]*)?(?:\t[0-9a-f]+: R_\S+\s+(\S+))?$")
+LINE = re.compile(r"\s*([0-9a-f]+):\t([^\t]*?)\s*(?:\s#\s[^\t]*)?(?:\t[0-9a-f]+: R_\S+\s+(\S+))?$")
 HEAD = re.compile(r"[0-9a-f]+ <(.+)>:$")
 BETWEEN = re.compile(r"|Disassembly of section .*:|In archive .*:|.*: +file format elf64-x86-64")
 OPERATION = re.compile(r"(?:(?:data16|cs|rep\w*|notrack|bnd|lock)\s+)*([a-z]\w*)\s*(.*)")
@@ -35,7 +35,8 @@ def named(operand, relocation):
     """The function whose beginning a call or a jump names, by its relocation or by its symbol."""
     if relocation:
         return relocation.removesuffix("-0x4").removeprefix(".text.")  # of 4 bytes, counted from their end
-    symbol = re.search(r"<([^+>]+)>$", operand)
+    # the name of an instance of a generic function has brackets of its own
+    symbol = re.search(r"<((?:(?!\+0x)[^+])+)>$", operand)
     return symbol[1].removesuffix("@plt") if symbol else None
 
 

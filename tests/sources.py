@@ -24,12 +24,22 @@ def line_of(text, place):
 
 # A clause of a contract: `requires` or `ensures`, what it says, and its place in the text. Its own name is no part of what it says.
 Clause = collections.namedtuple("Clause", "word says start end")
-Function = collections.namedtuple("Function", "name public parameters result clauses first last opens")
+
+
+class Function(collections.namedtuple("Function", "name owner public parameters result clauses first last opens")):
+    """A function. Its owner is the type or the trait whose method it is, or the two in one word where it is a trait's for a type."""
+
+    @property
+    def path(self):
+        """Its name below its crate or its module, as a check prints it."""
+        return f"{self.owner}::{self.name}" if self.owner else self.name
+
 
 HEAD = re.compile(
     r"((?:#\[[^\]]*\]\s*)*)"  # attributes
     r'((?:pub(?:\([^)]*\))?\s+)?(?:(?:const|unsafe)\s+)*(?:extern\s*"[^"]*"\s+)?)'
-    r"\bfn\s+(\w+)\s*(?:<[^(]*>)?\s*\(")
+    r"\bfn\s+(\w+)\s*(?:<(?:[^(){}]|\([^()]*\))*?>)?\s*\(")
+OWNER = re.compile(r"(?m)^(pub(?:\([^)]*\))?\s+)?(?:impl\b\s*(?:<[^{>]*>)?\s*([^{]+?)|trait\s+(\w+)[^{]*?)\s*\{")
 QUOTED = re.compile(r"""//[^\n]*|/\*.*?\*/|"(?:\\.|[^"\\])*"|\bb'(?:\\.[^']*|[^'\\\n])'""", re.S)
 BRACKET = re.compile(r"[()\[\]{}]")
 CLAUSE = re.compile(r"\s*(requires|ensures)\b\s*[\w-]*\s*\{")
@@ -90,7 +100,25 @@ def clause(text, found):
     return Clause(found.group(1), squeezed(text[found.end():end - 1]), found.start(), end)
 
 
-def function(text, found):
+def one_word(kinds):
+    """The name of a type, or of a trait with what it is made for, in the one word that a check prints."""
+    return "".join(word[0].upper() + word[1:] for word in re.findall(r"[A-Za-z]\w*", re.sub(r"'\w+", "", kinds)))
+
+
+def owners(text):
+    """What has methods in a source: its name, whether these are public with it, and where it begins and ends."""
+    for found in OWNER.finditer(text):
+        of_impl, trait = found[2], found[3]
+        made, _, kind = of_impl.rpartition(" for ") if of_impl else ("", "", trait)
+        own = one_word(re.sub(r"<.*", "", kind, flags=re.S)) + one_word(made)
+        yield own, bool(trait and found[1]), found.start(), closed(text, found.end() - 1)
+
+
+def owner_of(place, every):
+    return next(((own, public) for own, public, first, last in every if first < place < last), ("", False))
+
+
+def function(text, found, every):
     """The function whose head was found."""
     ends = closed(text, found.end() - 1)
     place = result_ends(text, ends)
@@ -99,20 +127,25 @@ def function(text, found):
     while CLAUSE.match(text, place):
         clauses.append(clause(text, CLAUSE.match(text, place)))
         place = clauses[-1].end
-    opens = text.find("{", place)
-    if opens < 0 or text[place:opens].strip():
+    own, by_owner = owner_of(found.start(), every)
+    opens = re.compile(r"[{;]").search(text, place)
+    if not opens or text[place:opens.start()].strip() or opens.group() == ";" and not own:
         raise Unread(f"line {line_of(text, found.start())}: {found.group(3)} is not read: something stands before its body")
-    public = "pub" in found.group(2) or "extern" in found.group(2) or "no_mangle" in found.group(1)
+    last = opens.start() if opens.group() == ";" else closed(text, opens.start())
+    public = by_owner or re.search(r"\bpub\s", found.group(2)) is not None or "extern" in found.group(2) or "no_mangle" in found.group(1)
     parameters = [parameter(part) for part in parts(text[found.end():ends - 1])]
-    lines = line_of(text, found.start()), line_of(text, closed(text, opens))
-    return Function(found.group(3), public, parameters, result, clauses, *lines, place)
+    lines = line_of(text, found.start()), line_of(text, last)
+    return Function(found.group(3), own, public, parameters, result, clauses, *lines, place)
 
 
 @functools.lru_cache(maxsize=None)
 def functions(text):
     """The functions of a source, in its order."""
     text = bare(text)
-    return [function(text, found) for found in HEAD.finditer(text)]
+    every, heads = list(owners(text)), list(HEAD.finditer(text))
+    if len(heads) != len(re.findall(r"\bfn\s+\w+", text)):
+        raise Unread("a function's head is not read")
+    return [function(text, found, every) for found in heads]
 
 
 def uses(clause):
@@ -130,7 +163,7 @@ def names_new(clause, name):
 
 Step = collections.namedtuple("Step", "wrong file old new")
 # The goals that a function's result, or the start or the turn of one of its loops, is proved by.
-RESULT = re.compile(r"(?:returns|loop-\S+-(?:init|preserved))(?:-\S+)?")
+RESULT = re.compile(r"(?:returns|loop(?:-\S+)?-(?:init|preserved))(?:-\S+)?")
 # A proof that names something that the code does not have.
 UNFIT = re.compile(r"has no field|that can be named from here|was not admitted|is not in scope")
 ERROR = re.compile(r"(?:\./)?(proofs/\S+/[^/]+\.antt):\d+:\d+: error: (?:`([^`]+)`: )?")
@@ -205,10 +238,11 @@ def is_result(answer, name):
 
 
 @functools.lru_cache(maxsize=None)
-def unproved_in(log, file, name, first, last, own):
+def unproved_in(log, file, path, first, last, own):
     """The lines of a log at which the result of a function is not proved, whose lines and whose own proof files these are."""
-    if not re.search(rf"(?m)^fn (?:\w+::)+{name}: (?:not proved|no proof)", log):
+    if not re.search(rf"(?m)^fn (?:[a-z]\w*::)+{path}: (?:not proved|no proof)", log):
         return ()
+    name = path.rpartition("::")[2]
     paths, texts = {path for path, _ in own}, [text for _, text in own]
     answers = {each for text in texts for each in citing(text) if is_result(each, name)}
     below = set().union(*(rests_on(each, texts) for each in answers))
@@ -227,9 +261,9 @@ def unproved(log, file, function, files):
     """The lines of a log at which a function's own result, or the start or the turn of one of its loops, is not proved: an error of its
     answer or of what the answer rests on in the function's own proof files, or a note that no answer was found. `files` are the crate's proof
     files by their paths. A proof that does not fit does not count, and no note does where one of the function's own files does not fit."""
-    front = re.compile(rf"proofs/(?:\S+/)?\+?{function.name}/[^/]+\.antt")
+    front = re.compile(rf"proofs/(?:[a-z]\w*/)*{function.owner and function.owner + '/'}\+?{function.name}/[^/]+\.antt")
     own = tuple((path, text) for path, text in sorted(files.items()) if front.fullmatch(path))
-    return unproved_in(log, file, function.name, function.first, function.last, own)
+    return unproved_in(log, file, function.path, function.first, function.last, own)
 
 
 # ---- antt

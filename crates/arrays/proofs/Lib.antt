@@ -1,3 +1,3 @@
 -- Both ways: what the arrays of a plan hold, and the loops that copy.
-pub mod Arrays
 pub mod Copying
+pub mod Arrays

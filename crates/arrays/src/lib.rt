@@ -2,26 +2,29 @@
 // the rows of a table, thirty values each.
 #![tactic(auto)]
 
-ghost use Rattle.std.specs.Prelude.{◌≡◌, ◌+◌, ◌≤◌, ◌<◌, length, drop};
+ghost use Rattle.std.specs.Prelude.{◌≡◌, ◌+◌, ◌*◌, ◌≤◌, ◌<◌, length};
 ghost use Rattle.std.proofs.Math.Seq.{paste};
-ghost use Rattle.arrays.specs.Arrays.{values_at, cost_from, allocation_from, sloped_of, untils_of, starts_of, steps_of, all_counts, all_amounts, all_shares, all_rates, all_gammas, instruments_of, byte_of, pattern_of, patterns_of, plan_of_arrays};
+ghost use Rattle.plan.specs.Held.{flag, is_slope, row_start, row_step, row_until};
+ghost use Rattle.arrays.specs.Arrays.{values_at, rates_in, all_counts, all_amounts, all_shares, all_rates, all_gammas, instruments_of, byte_of, pattern_of, patterns_of, plan_of_arrays};
 
 use plan::{Instrument, Pattern, Plan};
 use reckoning::Row;
+use std::array::from_fn;
 
-// Where the outflows begin among the amounts.
+// Where the outflows begin among the amounts, the money already invested, and the cost that is left at the horizon.
 const OUTFLOWS: usize = 480;
 
-// Where the money already invested begins among the amounts.
 const OPENING: usize = 510;
 
-// Where the cost that is left at the horizon begins among the amounts.
 const COST: usize = 540;
 
 // Where the allocation begins among the shares.
 const ALLOCATION: usize = 30;
 
-// Where it begins among the counts which patterns are slopes, and where T of each; and where it stands whether such a cost is held.
+// Where it stands among the counts whether money already invested is held; where it begins which patterns are slopes, and where T of each;
+// and where it stands whether such a cost is held.
+const OPENED: usize = 4;
+
 const SLOPED: usize = 5;
 
 const UNTIL: usize = 69;
@@ -33,340 +36,194 @@ const START: usize = 1_920;
 
 const STEP: usize = 1_984;
 
-// ---- from one array to another
-
-// Copies n amounts from place `start` of one array to place `at` of another, whose other places stay.
-fn copy_i64(from: &[i64], start: usize, to: &mut [i64], at: usize, n: usize)
-    requires n_in_bounds { start + n ≤ length from.now }
-    requires n_in_bounds_2 { at + n ≤ length to.old }
-    ensures { to.new ≡ paste to.old at (drop start from.now) n }
-{
-    for k in 0..n {
-        to[at + k] = from[start + k];
-    }
-}
-
-// The same for shares.
-fn copy_u32(from: &[u32], start: usize, to: &mut [u32], at: usize, n: usize)
-    requires n_in_bounds { start + n ≤ length from.now }
-    requires n_in_bounds_2 { at + n ≤ length to.old }
-    ensures { to.new ≡ paste to.old at (drop start from.now) n }
-{
-    for k in 0..n {
-        to[at + k] = from[start + k];
-    }
-}
-
-// The same for rates.
-fn copy_i32(from: &[i32], start: usize, to: &mut [i32], at: usize, n: usize)
-    requires n_in_bounds { start + n ≤ length from.now }
-    requires n_in_bounds_2 { at + n ≤ length to.old }
-    ensures { to.new ≡ paste to.old at (drop start from.now) n }
-{
-    for k in 0..n {
-        to[at + k] = from[start + k];
-    }
-}
-
-// The same for counts.
-fn copy_usize(from: &[usize], start: usize, to: &mut [usize], at: usize, n: usize)
-    requires n_in_bounds { start + n ≤ length from.now }
-    requires n_in_bounds_2 { at + n ≤ length to.old }
-    ensures { to.new ≡ paste to.old at (drop start from.now) n }
-{
-    for k in 0..n {
-        to[at + k] = from[start + k];
-    }
-}
-
 // ---- a plan into arrays
 
-// 1 for each pattern that is a slope, else 0.
-fn sloped_of(rows: [Pattern; 64]) -> [usize; 64]
-    ensures { result ≡ sloped_of rows }
+// Puts the thirty values of row j down, from place 30 j on; the other places stay. In line, since its own code would call memmove, which
+// the library for C does without.
+#[inline(always)]
+fn put_row<T: Copy>(out: &mut [T], j: usize, row: &[T; 30])
+    requires { 30 * j + 30 ≤ length out.old }
+    ensures is { out.new ≡ paste out.old (30 * j) row.now 30 }
+    ensures thirty { length row.now ≡ 30 }
 {
-    let mut v = [0usize; 64];
-    for t in 0..64 {
-        let row = rows[t];
-        v[t] = plan::flag(row.sloped);
-    }
-    v
+    out[30 * j..30 * j + 30].copy_from_slice(row);
 }
 
-// T of each pattern.
-fn untils_of(rows: [Pattern; 64]) -> [usize; 64]
-    ensures { result ≡ untils_of rows }
+// 1 for a slope, else 0.
+fn slope_flag(row: &Pattern) -> usize
+    ensures { result ≡ flag (is_slope row.now) }
 {
-    let mut v = [0usize; 64];
-    for t in 0..64 {
-        let row = rows[t];
-        v[t] = row.until as usize;
+    match row {
+        Pattern::Slope { .. } => 1,
+        Pattern::Rates(_) => 0,
     }
-    v
 }
 
-// The start of each pattern.
-fn starts_of(rows: [Pattern; 64]) -> [i32; 64]
-    ensures { result ≡ starts_of rows }
+// The start, the step and T of a slope; of any other pattern, zeros.
+fn slope_in(row: &Pattern) -> (i32, i32, u8)
+    ensures start { result.0 ≡ row_start row.now }
+    ensures step { result.1 ≡ row_step row.now }
+    ensures until { result.2 ≡ row_until row.now }
 {
-    let mut v = [0i32; 64];
-    for t in 0..64 {
-        let row = rows[t];
-        let start = row.start;
-        v[t] = start;
+    match row {
+        Pattern::Slope { start, step, until } => (*start, *step, *until),
+        Pattern::Rates(_) => (0, 0, 0),
     }
-    v
-}
-
-// The step of each pattern.
-fn steps_of(rows: [Pattern; 64]) -> [i32; 64]
-    ensures { result ≡ steps_of rows }
-{
-    let mut v = [0i32; 64];
-    for t in 0..64 {
-        let row = rows[t];
-        let step = row.step;
-        v[t] = step;
-    }
-    v
 }
 
 // N, n, q and m, and 1 where money already invested is held, else 0; then which patterns are slopes, then T of each, and 1 where the cost that
 // is left at the horizon is held, else 0.
-pub fn put_counts(plan: Plan, out: &mut [usize; 134])
-    ensures { out.new ≡ all_counts plan }
+pub fn put_counts(plan: &Plan, out: &mut [usize; 134])
+    ensures { out.new ≡ all_counts plan.now }
 {
-    let opened = plan::flag(plan.opened);
-    let head = [
+    let opened = usize::from(plan.opening.is_some());
+    out[..SLOPED].copy_from_slice(&[
         plan.years,
         plan.instruments,
         plan.terms,
         plan.patterns,
         opened,
-    ];
-    copy_usize(&head, 0, out, 0, 5);
-    let rows = plan.pattern;
-    let sloped = sloped_of(rows);
-    copy_usize(&sloped, 0, out, SLOPED, 64);
-    let untils = untils_of(rows);
-    copy_usize(&untils, 0, out, UNTIL, 64);
-    let last = [plan::flag(plan.costed)];
-    copy_usize(&last, 0, out, COSTED, 1);
-}
-
-// The payments of an instrument.
-fn payments_in(row: Instrument) -> [i64; 30]
-    ensures { result ≡ row.payments }
-{
-    row.payments
-}
-
-// The rates of a pattern.
-fn rates_in(row: Pattern) -> [i32; 30]
-    ensures { result ≡ row.rates }
-{
-    row.rates
-}
-
-// The gammas of a row.
-fn gammas_in(row: Row) -> [i64; 30]
-    ensures { result ≡ row.values }
-{
-    row.values
+    ]);
+    out[SLOPED..UNTIL].copy_from_slice(&from_fn::<_, 64, _>(|t| slope_flag(&plan.pattern[t])));
+    out[UNTIL..COSTED].copy_from_slice(&from_fn::<_, 64, _>(|t| usize::from(
+        slope_in(&plan.pattern[t]).2,
+    )));
+    out[COSTED] = usize::from(plan.cost.is_some());
 }
 
 // The payments of the 16 instruments, then the outflows, then the money already invested, then the cost that is left at the horizon.
-pub fn put_amounts(plan: Plan, out: &mut [i64; 556])
-    ensures { out.new ≡ all_amounts plan }
+pub fn put_amounts(plan: &Plan, out: &mut [i64; 556])
+    ensures { out.new ≡ all_amounts plan.now }
 {
-    let rows = plan.instrument;
-    for j in 0..16 {
-        let row = rows[j];
-        let payments = payments_in(row);
-        copy_i64(&payments, 0, out, 30 * j, 30);
+    for (j, row) in plan.instrument.iter().enumerate() {
+        put_row(out, j, &row.payments);
     }
-    let outflows = plan.outflows;
-    copy_i64(&outflows, 0, out, OUTFLOWS, 30);
-    let opening = plan.opening;
-    copy_i64(&opening, 0, out, OPENING, 30);
-    let cost = plan.cost;
-    copy_i64(&cost, 0, out, COST, 16);
+    out[OUTFLOWS..OPENING].copy_from_slice(&plan.outflows);
+    out[OPENING..COST].copy_from_slice(&plan.opening.unwrap_or([0; 30]));
+    out[COST..].copy_from_slice(&plan.cost.unwrap_or([0; 16]));
 }
 
 // The rollover, then the allocation.
-pub fn put_shares(plan: Plan, out: &mut [u32; 46])
-    ensures { out.new ≡ all_shares plan }
+pub fn put_shares(plan: &Plan, out: &mut [u32; 46])
+    ensures { out.new ≡ all_shares plan.now }
 {
-    let rollover = plan.rollover;
-    copy_u32(&rollover, 0, out, 0, 30);
-    let allocation = plan.allocation;
-    copy_u32(&allocation, 0, out, ALLOCATION, 16);
+    out[..ALLOCATION].copy_from_slice(&plan.rollover);
+    out[ALLOCATION..].copy_from_slice(&plan.allocation);
+}
+
+// The rates that a pattern lists; zeros of a slope.
+fn rates_in(row: &Pattern) -> [i32; 30]
+    ensures { result ≡ rates_in row.now }
+{
+    match row {
+        Pattern::Rates(rates) => *rates,
+        Pattern::Slope { .. } => [0; 30],
+    }
 }
 
 // The rates of the 64 patterns, then the start of each, then the step of each.
-pub fn put_rates(plan: Plan, out: &mut [i32; 2048])
-    ensures { out.new ≡ all_rates plan }
+pub fn put_rates(plan: &Plan, out: &mut [i32; 2048])
+    ensures { out.new ≡ all_rates plan.now }
 {
-    let rows = plan.pattern;
-    for t in 0..64 {
-        let row = rows[t];
-        let rates = rates_in(row);
-        copy_i32(&rates, 0, out, 30 * t, 30);
+    for (t, row) in plan.pattern.iter().enumerate() {
+        put_row(out, t, &rates_in(row));
     }
-    let starts = starts_of(rows);
-    copy_i32(&starts, 0, out, START, 64);
-    let steps = steps_of(rows);
-    copy_i32(&steps, 0, out, STEP, 64);
+    out[START..STEP].copy_from_slice(&from_fn::<_, 64, _>(|t| slope_in(&plan.pattern[t]).0));
+    out[STEP..].copy_from_slice(&from_fn::<_, 64, _>(|t| slope_in(&plan.pattern[t]).1));
 }
 
 // The 30 rows of a table of gammas.
-pub fn put_gammas(rows: [Row; 30], out: &mut [i64; 900])
-    ensures { out.new ≡ all_gammas rows }
+pub fn put_gammas(rows: &[Row; 30], out: &mut [i64; 900])
+    ensures { out.new ≡ all_gammas rows.now }
 {
-    for j in 0..30 {
-        let row = rows[j];
-        let values = gammas_in(row);
-        copy_i64(&values, 0, out, 30 * j, 30);
+    for (j, row) in rows.iter().enumerate() {
+        put_row(out, j, &row.values);
     }
 }
 
 // ---- arrays into a plan
 
-// Thirty amounts from place `at` on.
-fn amounts_at(amounts: &[i64], at: usize) -> [i64; 30]
-    requires { at + 30 ≤ length amounts.now }
-    ensures { result ≡ values_at amounts.now at 30 }
-{
-    let mut part = [0i64; 30];
-    copy_i64(amounts, at, &mut part, 0, 30);
-    part
+// The four arrays that a plan stands in.
+#[derive(Clone, Copy)]
+pub struct PlanArrays<'a> {
+    pub counts: &'a [usize; 134],
+    pub amounts: &'a [i64; 556],
+    pub shares: &'a [u32; 46],
+    pub rates: &'a [i32; 2048],
 }
 
-// Thirty rates from place `at` on.
-fn rates_at(rates: &[i32], at: usize) -> [i32; 30]
-    requires { at + 30 ≤ length rates.now }
-    ensures { result ≡ values_at rates.now at 30 }
+// N values from place `at` on.
+// kept: taken of the rest of an array, as `part_of(&amounts[30 * j..])`, the call is no plainer
+fn part_of<T: Copy, const N: usize>(values: &[T], at: usize) -> [T; N]
+    requires { at + N ≤ length values.now }
+    ensures { result ≡ values_at values.now at N }
 {
-    let mut part = [0i32; 30];
-    copy_i32(rates, at, &mut part, 0, 30);
-    part
-}
-
-// The instruments: thirty payments each, one instrument after the other.
-fn instruments_of(amounts: &[i64; 556]) -> [Instrument; 16]
-    ensures { result ≡ instruments_of amounts.now }
-{
-    let none = Instrument {
-        payments: [0i64; 30],
-    };
-    let mut rows = [none; 16];
-    for j in 0..16 {
-        let payments = amounts_at(amounts, 30 * j);
-        rows[j] = Instrument { payments };
-    }
-    rows
-}
-
-// The rollover.
-fn rollover_of(shares: &[u32; 46]) -> [u32; 30]
-    ensures { result ≡ values_at shares.now 0 30 }
-{
-    let mut part = [0u32; 30];
-    copy_u32(shares, 0, &mut part, 0, 30);
-    part
+    *values[at..].first_chunk().unwrap()
 }
 
 // A byte; 0 where the number is none.
 fn byte_of(n: usize) -> u8
     ensures { result ≡ byte_of n }
 {
-    if n < 256 { n as u8 } else { 0 }
+    u8::try_from(n).unwrap_or(0)
 }
 
-// The pattern at t: thirty rates, and the four numbers that say whether it is a slope, and which.
-fn pattern_at(counts: &[usize; 134], rates: &[i32; 2048], t: usize) -> Pattern
-    requires { t < 64 }
-    ensures { result ≡ pattern_of counts.now rates.now t }
-{
-    let row = rates_at(rates, 30 * t);
-    let until = byte_of(counts[UNTIL + t]);
-    Pattern {
-        rates: row,
-        sloped: 0 < counts[SLOPED + t],
-        start: rates[START + t],
-        step: rates[STEP + t],
-        until,
-        spare: 0,
+impl PlanArrays<'_> {
+    // The instruments: thirty payments each, one instrument after the other.
+    fn instruments(&self) -> [Instrument; 16]
+        ensures { result ≡ instruments_of self.now.amounts.now }
+    {
+        from_fn(|j| Instrument {
+            payments: part_of(self.amounts, 30 * j),
+        })
     }
-}
 
-// The patterns, one after the other.
-fn patterns_of(counts: &[usize; 134], rates: &[i32; 2048]) -> [Pattern; 64]
-    ensures { result ≡ patterns_of counts.now rates.now }
-{
-    let none = Pattern {
-        rates: [0i32; 30],
-        sloped: false,
-        start: 0,
-        step: 0,
-        until: 0,
-        spare: 0,
-    };
-    let mut rows = [none; 64];
-    for t in 0..64 {
-        rows[t] = pattern_at(counts, rates, t);
+    // The pattern at t: thirty rates, or a slope where its count is not 0.
+    fn pattern(&self, t: usize) -> Pattern
+        requires { t < 64 }
+        ensures { result ≡ pattern_of self.now.counts.now self.now.rates.now t }
+    {
+        let PlanArrays { counts, rates, .. } = *self;
+        if counts[SLOPED + t] == 0 {
+            return Pattern::Rates(part_of(rates, 30 * t));
+        }
+        Pattern::Slope {
+            start: rates[START + t],
+            step: rates[STEP + t],
+            until: byte_of(counts[UNTIL + t]),
+        }
     }
-    rows
-}
 
-// The allocation.
-fn allocation_of(shares: &[u32; 46]) -> [u32; 16]
-    ensures { result ≡ values_at shares.now allocation_from 16 }
-{
-    let mut part = [0u32; 16];
-    copy_u32(shares, ALLOCATION, &mut part, 0, 16);
-    part
-}
+    // The patterns, one after the other.
+    fn patterns(&self) -> [Pattern; 64]
+        ensures { result ≡ patterns_of self.now.counts.now self.now.rates.now }
+    {
+        from_fn(|t| self.pattern(t))
+    }
 
-// The cost that is left at the horizon, of each instrument.
-fn cost_of(amounts: &[i64; 556]) -> [i64; 16]
-    ensures { result ≡ values_at amounts.now cost_from 16 }
-{
-    let mut part = [0i64; 16];
-    copy_i64(amounts, COST, &mut part, 0, 16);
-    part
-}
-
-// The plan that such arrays hold, whatever they hold. Any number but 0 says that money already invested is held, or the cost that is left
-// at the horizon, or that a pattern is a slope.
-pub fn plan_of(
-    counts: &[usize; 134],
-    amounts: &[i64; 556],
-    shares: &[u32; 46],
-    rates: &[i32; 2048],
-) -> Plan
-    ensures { result ≡ plan_of_arrays counts.now amounts.now shares.now rates.now }
-{
-    let instrument = instruments_of(amounts);
-    let outflows = amounts_at(amounts, OUTFLOWS);
-    let rollover = rollover_of(shares);
-    let pattern = patterns_of(counts, rates);
-    let allocation = allocation_of(shares);
-    let opening = amounts_at(amounts, OPENING);
-    let cost = cost_of(amounts);
-    Plan {
-        years: counts[0],
-        instruments: counts[1],
-        terms: counts[2],
-        patterns: counts[3],
-        instrument,
-        outflows,
-        rollover,
-        pattern,
-        allocation,
-        opening,
-        cost,
-        opened: 0 < counts[4],
-        costed: 0 < counts[COSTED],
+    // The plan that the arrays hold, whatever they hold. Any number but 0 says that money already invested is held, or the cost that is
+    // left at the horizon, or that a pattern is a slope.
+    pub fn plan(&self) -> Plan
+        ensures { result ≡ plan_of_arrays self.now.counts.now self.now.amounts.now self.now.shares.now self.now.rates.now }
+    {
+        let PlanArrays {
+            counts,
+            amounts,
+            shares,
+            ..
+        } = *self;
+        Plan {
+            years: counts[0],
+            instruments: counts[1],
+            terms: counts[2],
+            patterns: counts[3],
+            instrument: self.instruments(),
+            outflows: part_of(amounts, OUTFLOWS),
+            rollover: part_of(shares, 0),
+            pattern: self.patterns(),
+            allocation: part_of(shares, ALLOCATION),
+            opening: (0 < counts[OPENED]).then_some(part_of(amounts, OPENING)),
+            cost: (0 < counts[COSTED]).then_some(part_of(amounts, COST)),
+        }
     }
 }

@@ -8,7 +8,7 @@ use Rattle.plan.specs.declared.Plan.{Plan}
 use Rattle.planfile.specs.Read.{read_answer}
 use Rattle.planfile.specs.Records.{held_in}
 use Rattle.planfile.specs.Demand2.{OneFile}
-use Rattle.planfile.specs.declared.ReadAnswer.{ReadAnswer}
+use Rattle.planfile.specs.Answers.{ReadAnswer}
 use Rattle.planfile.proofs.Answers.{plan_read, read_numbers, read_accepted, until_read}
 use Rattle.arrays.specs.Arrays.{all_counts, all_amounts, all_shares, all_rates, plan_of_arrays}
 use Rattle.arrays.proofs.Arrays.{from_again}

@@ -2,21 +2,19 @@
 -- call's own answer for the numbers that stand in the file. The cash account has lists of its own, with checks between those on the
 -- file's numbers: the file is refused by its records alone, 1 to 5, and the call makes all the others in their order.
 use Rattle.std.specs.Prelude.{List, ℕ, ℤ}
-use Rattle.reckoning.specs.declared.Reckoned.{Reckoned}
-use Rattle.reckoning.specs.declared.GammaTable.{GammaTable}
+use Rattle.reckoning.specs.Answers.{Reckoned, GammaTable}
 use Rattle.plan.specs.Numbers.{Numbers}
 use Rattle.plan.specs.Refusal.{answer}
 use Rattle.patterns.specs.Pattern.{no_form}
-use Rattle.patterns.specs.declared.FormAnswer.{FormAnswer}
+use Rattle.patterns.specs.Answers.{FormAnswer}
 use Rattle.planner.specs.Calls.{no_fund, no_bound, no_gammas, fund_answer, bound_answer, form_answer, gammas_answer}
 use Rattle.planner.specs.Verdict.{no_verdict, verdict_answer}
-use Rattle.planner.specs.declared.BoundAnswer.{BoundAnswer}
-use Rattle.planner.specs.declared.VerdictAnswer.{VerdictAnswer}
-use Rattle.cash.specs.declared.CashAnswer.{CashAnswer}
+use Rattle.planner.specs.Answers.{BoundAnswer, VerdictAnswer}
+use Rattle.cash.specs.Answers.{CashAnswer}
 use Rattle.cash.specs.Call.{no_cash, cash_answer}
-use Rattle.finder.specs.declared.FindAnswer.{FindAnswer}
+use Rattle.finder.specs.Answers.{FindAnswer}
 use Rattle.finder.specs.Find.{not_found, find_answer}
-use Rattle.planfile.specs.declared.ReadAnswer.{ReadAnswer}
+use Rattle.planfile.specs.Answers.{ReadAnswer}
 use Rattle.planfile.specs.Read.{numbers_in, records_answer, read_answer}
 
 module _ (s : List ℕ) where

@@ -1,6 +1,6 @@
 -- Level rates (document 02, item 7), of the fund's call on files.
 use Rattle.std.specs.Prelude.{◌≡◌, List, ℕ}
-use Rattle.reckoning.specs.declared.Reckoned.{Reckoned}
+use Rattle.reckoning.specs.Answers.{Reckoned}
 use Rattle.planner.specs.Level.{LevelExact, LevelApart}
 use Rattle.planfile.specs.Read.{numbers_in, read_answer}
 use Rattle.becketgrape.specs.Calls.{fund_of_file, bound_of_file}

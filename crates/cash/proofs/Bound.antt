@@ -1,12 +1,14 @@
 -- The bound g: its equation, its size, and the loop that reckons it.
 use mathlib.Core.Path.{◌≡◌, refl, ap, ◌∙◌}
 use mathlib.Core.List.{List}
-use Prim.Native.Nat.{ℕ, zero, suc, ◌+◌, ◌*◌, ◌^◌, ◌≤◌, ◌<◌}
+use Prim.Native.Nat.{ℕ, zero, suc, ◌+◌, ◌*◌, ◌^◌, ◌≤◌, ◌<◌, max}
 use native.Mathlib.Nat.{pow-suc}
 use native.Mathlib.Numerals.{add-one}
 use native.Mathlib.Omega.{arith}
 use lib.Pow.{pow_mono}
 use lib.IntN.{ℤ, pos, nat_abs, ◌+ℤ◌, ◌*ℤ◌}
+use Rattle.std.specs.Int.{int_max}
+use Rattle.std.proofs.lemmas.Int.{ints, int_max_is}
 use Rattle.whole.specs.Range.{million, Between, Within}
 use Rattle.whole.specs.Floor.{floor}
 use Rattle.whole.proofs.Bridge.{whole, at, #, ◌⊕◌}
@@ -76,6 +78,9 @@ module _ {h n : ℕ} {x : ℤ} {t : ℕ} (s : Growing (pos h) n x t) where
   grow_end b = let e : t ≡ n = omega (arith, s.upto) in s.is ∙ ap (λ (t : ℕ). pos (g h t)) e
 
 -- ---- h of two lists
+pub max_counts : (a b : ℕ) → int_max (pos a) (pos b) ≡ pos (max a b)
+max_counts a b = omega (arith, ints, int_max_is)
+
 module _ (lending borrowing : List ℤ) (n : ℕ) where
   pub largest_few : Rates lending → Rates borrowing → Years n → largestRate (rates_of lending) (rates_of borrowing) n ≤ million
   unfolding largestRate

@@ -1,28 +1,34 @@
 -- What the refusal of a call says, the ways out of it, and that its answer is true of the exact account.
-use mathlib.Core.Path.{◌≡◌, refl, sym, ap, ◌∙◌, subst}
+use mathlib.Core.Path.{◌≡◌, refl, sym, ap, ap₂, ◌∙◌, subst}
 use mathlib.Core.Bool.{true}
 use mathlib.Core.List.{List}
-use Prim.Native.Nat.{ℕ, ◌+◌, ◌-◌, ◌<◌}
+use Prim.Native.Nat.{ℕ, ◌+◌, ◌-◌, ◌≤◌, ◌<◌}
 use native.Mathlib.Omega.{arith}
 use borrow.Author.Tests.{eqb-true}
 use lib.Dec.{eqb}
 use lib.ListN.{length}
 use lib.IntN.{ℤ, pos, zero-*ℤ}
 use lib.Signed.{◌≤ℤ◌}
-use Rattle.whole.specs.Test.{both}
-use Rattle.whole.proofs.Test.{both_first, both_second, all_at, between_fact, picked_yes, picked_no, picked_is}
+use Rattle.whole.specs.Range.{limit, Within}
+use Rattle.whole.specs.Test.{both, is_within}
+use Rattle.whole.proofs.Test.{both_first, both_second, all_at, between_fact, picked_is}
+use Rattle.std.specs.Prelude.{Ok, Err}
+use Rattle.refusal.specs.Number.{number_of}
+use Rattle.refusal.specs.declared.Refusal.{Refusal}
+use Rattle.refusal.specs.declared.Refusal.TheVariants.{OutOfLimit}
+use Rattle.whole.proofs.Answer.{answered_ok, answered_err}
 use Rattle.reckoning.specs.Arrays.{rates_of}
 use Rattle.reckoning.proofs.Theorem.{flow_floors}
 use Rattle.plan.specs.Held.{held}
 use Rattle.plan.specs.Numbers.{Numbers, numbers}
-use Rattle.plan.specs.Refusal.{head_refusal, Accepted}
+use Rattle.plan.specs.Refusal.{answer, head_refusal, refusal_with}
 use Rattle.plan.specs.declared.Plan.{Plan}
-use Rattle.plan.proofs.Checks.{check_true, first_none, first_next, not_refused, answer_accepted, head_passed, accepted, lists_pass, plan_passes}
+use Rattle.plan.proofs.Checks.{check_true, first_some, first_none, first_next, not_refused, answer_refused, answer_accepted, head_passed, lists_pass}
+use Rattle.plan.proofs.Number.{number_some}
 use Rattle.patterns.specs.Pattern.{shared_of, flow_of, exact_flow_of}
 use Rattle.planner.specs.Verdict.{word_of}
 use Rattle.planner.proofs.VerdictLaws.{word_solvent, word_short}
-use Rattle.cash.specs.declared.CashAnswer.{CashAnswer}
-use Rattle.cash.specs.declared.AccountAnswer.{AccountAnswer}
+use Rattle.cash.specs.Answers.{CashAnswer}
 use Rattle.cash.specs.Account.{account, h, g}
 use Rattle.cash.specs.Theorem.{Below, NearEveryYear, exact_account, bound_of, CashTrue}
 use Rattle.cash.specs.Call.{
@@ -72,29 +78,90 @@ module _ (P : Numbers) (lending borrowing : ℕ → ℤ) (e : numbers_refusal P 
   pub borrowing_ok : list_ok P.years borrowing ≡ true
   borrowing_ok = both_second (list_ok P.years lending) _ both_ok
 
--- so they have passed on the plan itself
-pub accepted_plan : (plan : Plan) (lending borrowing : ℕ → ℤ) → numbers_refusal (numbers plan) lending borrowing ≡ 0 → Accepted (numbers plan)
-unfolding numbers_refusal
-accepted_plan plan lending borrowing e = accepted plan (plan_passes (numbers plan) _ e)
+-- ---- the ways out of the call
+module _ (P : Numbers) (lending borrowing : List ℤ) where
+  pub head_refused : (e : Refusal) → number_of e ≡ head_refusal P → no_cash (number_of e) ≡ cash_answer P lending borrowing
+  unfolding cash_answer shape_refusal
+  head_refused e h =
+      let some = number_some e in
+      sym (answer_refused no_cash (number_of e) (cash_at P (rates_of lending) (rates_of borrowing)) some)
+      ∙ ap (λ (n : ℕ). answer no_cash n (cash_at P (rates_of lending) (rates_of borrowing))) (h ∙ sym (first_some (head_refusal P) _ (λ z. some (h ∙ z))))
+
+  module _ (head : 0 ≡ head_refusal P) where
+    pub lengths_refused : (e : Refusal) → number_of e ≡ lengths_refusal P.years lending borrowing → no_cash (number_of e) ≡ cash_answer P lending borrowing
+    unfolding cash_answer shape_refusal
+    lengths_refused e h =
+        sym (answer_refused no_cash (number_of e) (cash_at P (rates_of lending) (rates_of borrowing)) (number_some e))
+        ∙ ap (λ (n : ℕ). answer no_cash n (cash_at P (rates_of lending) (rates_of borrowing))) (rw (← head) h)
+
+    module _ (lengths : 0 ≡ lengths_refusal P.years lending borrowing) where
+      shape_passed : shape_refusal P lending borrowing ≡ 0
+      unfolding shape_refusal
+      shape_passed = rw (← head, ← lengths) refl
+
+      pub lists_long : (length lending ≡ P.years - 1) × (length borrowing ≡ P.years - 1)
+      lists_long = (lending_long P lending borrowing shape_passed, borrowing_long P lending borrowing shape_passed)
+
+      -- what check 8 and 14 say of the lists
+      pub lists_said : {n : ℕ} → n ≡ lists_refusal (length lending + 1) (rates_of lending) (rates_of borrowing) → 1 ≤ P.years → n ≡ lists_refusal P.years (rates_of lending) (rates_of borrowing)
+      lists_said h some =
+          let e : length lending + 1 ≡ P.years = omega (arith, lending_long P lending borrowing shape_passed) in
+          h ∙ ap (λ (n : ℕ). lists_refusal n (rates_of lending) (rates_of borrowing)) e
+
+      module _ {n : ℕ} (lists : n ≡ lists_refusal P.years (rates_of lending) (rates_of borrowing)) where
+        pub numbers_refused : (e : Refusal) → number_of e ≡ refusal_with P n → no_cash (number_of e) ≡ cash_answer P lending borrowing
+        unfolding cash_answer cash_at numbers_refusal
+        numbers_refused e h =
+            sym (answer_refused no_cash (number_of e) (cash_reckoned (rates_of lending) (rates_of borrowing) (flow_of (shared_of P)) P.years) (number_some e))
+            ∙ ap (λ (n : ℕ). answer no_cash n (cash_reckoned (rates_of lending) (rates_of borrowing) (flow_of (shared_of P)) P.years)) (h ∙ ap (refusal_with P) lists)
+            ∙ sym (answer_accepted no_cash (shape_refusal P lending borrowing) _ shape_passed)
+
+        module _ (none : 0 ≡ refusal_with P n) where
+          numbers_passed : numbers_refusal P (rates_of lending) (rates_of borrowing) ≡ 0
+          unfolding numbers_refusal
+          numbers_passed = sym (none ∙ ap (refusal_with P) lists)
+
+          pub numbers_accepted : cash_reckoned (rates_of lending) (rates_of borrowing) (flow_of (shared_of P)) P.years ≡ cash_answer P lending borrowing
+          unfolding cash_answer cash_at
+          numbers_accepted = sym (answer_accepted no_cash (numbers_refusal P (rates_of lending) (rates_of borrowing)) _ numbers_passed) ∙ sym (answer_accepted no_cash (shape_refusal P lending borrowing) _ shape_passed)
+
+          -- and the lists can be taken
+          pub lending_taken : 1 ≤ P.years → list_ok (length lending + 1) (rates_of lending) ≡ true
+          lending_taken some =
+              let e : P.years ≡ length lending + 1 = omega (arith, lending_long P lending borrowing shape_passed) in
+              ap (λ (n : ℕ). list_ok n (rates_of lending)) (sym e) ∙ lending_ok P (rates_of lending) (rates_of borrowing) numbers_passed
+
+          pub borrowing_taken : 1 ≤ P.years → list_ok (length borrowing + 1) (rates_of borrowing) ≡ true
+          borrowing_taken some =
+              let e : P.years ≡ length borrowing + 1 = omega (arith, borrowing_long P lending borrowing shape_passed) in
+              ap (λ (n : ℕ). list_ok n (rates_of borrowing)) (sym e) ∙ borrowing_ok P (rates_of lending) (rates_of borrowing) numbers_passed
 
 -- a rate that check 8 takes is not below zero
 list_nonneg : (N : ℕ) (rates : ℕ → ℤ) → list_ok N rates ≡ true → (l : ℕ) → l < N - 1 → pos 0 ≤ℤ rates (2 + l)
 unfolding list_ok
 list_nonneg N rates ok l b = (between_fact _ _ (rates (2 + l)) (all_at (N - 1) _ l b ok)).low
 
--- ---- what the account's answer a makes of the call's
-module _ (lending borrowing f : ℕ → ℤ) (N : ℕ) {a : AccountAnswer} (e : a ≡ account_reckoned lending borrowing f N) where
-  pub reckoned_refused : (a.refusal ≡ 0 → ⊥) → no_cash 11 ≡ cash_reckoned lending borrowing f N
+-- ---- what the account makes of the call's answer
+module _ (lending borrowing f : ℕ → ℤ) (N : ℕ) where
+  pub reckoned_refused : (e : Refusal) → Err e ≡ account_reckoned lending borrowing f N → no_cash (number_of e) ≡ cash_reckoned lending borrowing f N
   unfolding account_reckoned cash_reckoned
-  reckoned_refused h = rw (picked_no (λ (a : AccountAnswer). a.refusal) _ _ refl (λ z. omega arith) (accounts_fit lending borrowing f N) a e h)
+  reckoned_refused e h = let a = answered_err (account lending borrowing f N) e OutOfLimit (accounts_fit lending borrowing f N) h in rw (a.0, a.1) refl
 
-  pub reckoned_accepted : a.refusal ≡ 0 → {b : ℤ} {w : ℕ} → b ≡ pos (g (h lending borrowing N) N) → w ≡ word_of a.amount b (pos 0)
-      → record { refusal = 0; account = a.amount; bound = b; word = w } ≡ cash_reckoned lending borrowing f N
+  pub reckoned_within : 1 ≤ N → {v : ℤ} → Ok v ≡ account_reckoned lending borrowing f N → Within limit v
+  unfolding account_reckoned accounts_fit
+  reckoned_within some {v} e =
+      let a = answered_ok (account lending borrowing f N) v OutOfLimit (accounts_fit lending borrowing f N) e in
+      let last : 1 + (N - 1) ≡ N = omega arith in
+      rw a.1 (between_fact _ _ (account lending borrowing f N) (rw last at (all_at N (λ t. is_within limit (account lending borrowing f (1 + t))) (N - 1) (omega arith) a.0)))
+
+  pub reckoned_accepted : {v b : ℤ} {w : ℕ} → Ok v ≡ account_reckoned lending borrowing f N → b ≡ pos (g (h lending borrowing N) N) → w ≡ word_of v b (pos 0)
+      → record { refusal = 0; account = v; bound = b; word = w } ≡ cash_reckoned lending borrowing f N
   unfolding account_reckoned cash_reckoned
-  reckoned_accepted r p q =
-      let yes = picked_yes (λ (a : AccountAnswer). a.refusal) _ _ refl (λ z. omega arith) (accounts_fit lending borrowing f N) a e r in
-      let is : a.amount ≡ account lending borrowing f N = ap (λ (a : AccountAnswer). a.amount) (picked_is (λ (a : AccountAnswer). a.refusal) _ _ refl (λ z. omega arith) (accounts_fit lending borrowing f N) a e r) in
-      rw (yes, q, p, is)
+  reckoned_accepted {v} {b} {w} e p q = let a = answered_ok (account lending borrowing f N) v OutOfLimit (accounts_fit lending borrowing f N) e in rw (a.0, q, p, a.1) refl
+
+-- of equal rates, flows and years
+pub reckoned_same : {l m b c f g : ℕ → ℤ} {N M : ℕ} → l ≡ m → b ≡ c → f ≡ g → N ≡ M → cash_reckoned l b f N ≡ cash_reckoned m c g M
+reckoned_same {l} {m} {b} {c} {f} {g} {N} {M} p q r s = ap₂ (λ (l b : ℕ → ℤ). cash_reckoned l b f N) p q ∙ ap₂ (cash_reckoned m c) r s
 
 -- ---- the answer, and the exact account
 module _ (P : Numbers) (lending borrowing : List ℤ) where

@@ -5,9 +5,13 @@ use mathlib.Core.List.{List}
 use Prim.Native.Nat.{ℕ, zero, suc, ◌+◌, ◌-◌, ◌≤◌, ◌<◌}
 use native.Mathlib.Numerals.{add-one}
 use native.Mathlib.Omega.{arith}
-use lib.ListN.{get_or}
+use lib.ListN.{length, get_or, drop}
 use lib.IntN.{ℤ, pos, ◌+ℤ◌}
 use lib.Signed.{le_z}
+use Rattle.std.specs.Prelude.{Ok, Err, slice_range, zip}
+use Rattle.std.proofs.lemmas.List.{length-take-le, length-drop, get_or-take, get_or-drop, get_or_default}
+use Rattle.std.proofs.lemmas.Slice.Zip.{length-zip, get_or-zip}
+use Rattle.refusal.specs.declared.Refusal.TheVariants.{OutOfLimit}
 use Rattle.whole.specs.Range.{million, limit, Within}
 use Rattle.whole.specs.Floor.{share_of}
 use Rattle.whole.specs.Test.{pick, is_within}
@@ -94,14 +98,45 @@ module _ (flow lending borrowing : List ℤ) (n : ℕ) where
             fit = all_more t (λ t. is_within limit (balance (1 + t))) s.fit (ap (is_within limit) (sym run_next) ∙ h);
           }
 
-      pub run_refuse : is_within limit z ≡ false → record { refusal = 11; amount = pos 0 } ≡ account_reckoned (rates_of lending) (rates_of borrowing) (amounts_of flow) n
+      pub run_refuse : is_within limit z ≡ false → Err OutOfLimit ≡ account_reckoned (rates_of lending) (rates_of borrowing) (amounts_of flow) n
       unfolding account_reckoned accounts_fit
       run_refuse h = rw (all_fails n (λ t. is_within limit (balance (1 + t))) t b (ap (is_within limit) (sym run_next) ∙ h))
 
-    pub run_end : n ≤ t → record { refusal = 0; amount = v } ≡ account_reckoned (rates_of lending) (rates_of borrowing) (amounts_of flow) n
+    pub run_end : n ≤ t → Ok v ≡ account_reckoned (rates_of lending) (rates_of borrowing) (amounts_of flow) n
     unfolding account_reckoned
     run_end b =
         let e : t ≡ n = omega (arith, s.upto) in
         let fits : accounts_fit (rates_of lending) (rates_of borrowing) (amounts_of flow) n ≡ true = ap (accounts_fit (rates_of lending) (rates_of borrowing) (amounts_of flow)) (sym e) ∙ s.fit in
         let is : v ≡ balance n = s.is ∙ ap balance e in
         rw (fits, is)
+
+-- ---- the later years of a flow, each with its two rates
+abbrev pub later : List ℤ → (n : ℕ) → List ℤ
+later flow n = slice_range flow 1 n
+
+later_long : (flow : List ℤ) (n : ℕ) → n ≤ length flow → length (later flow n) ≡ n - 1
+later_long flow n few = length-take-le (n - 1) (drop 1 flow) (omega (arith, length-drop 1 flow))
+
+abbrev pub years_of : (flow lending borrowing : List ℤ) (n : ℕ) → List ((ℤ × ℤ) × ℤ)
+years_of flow lending borrowing n = zip (zip (later flow n) lending) borrowing
+
+module _ (flow lending borrowing : List ℤ) (n : ℕ) (f : n ≤ length flow) (l : n ≤ length lending) (b : n ≤ length borrowing) where
+  pairs_long : length (zip (later flow n) lending) ≡ n - 1
+  pairs_long = length-zip (later flow n) lending ∙ omega (arith, later_long flow n f)
+
+  pub years_long : length (years_of flow lending borrowing n) ≡ n - 1
+  years_long = length-zip (zip (later flow n) lending) borrowing ∙ omega (arith, pairs_long)
+
+  pub year_at : (k : ℕ) (y : (ℤ × ℤ) × ℤ) → k < n - 1 → y ≡ get_or (years_of flow lending borrowing n) k y
+      → (y.0.0 ≡ get_or flow (k + 1) (pos 0)) × (y.0.1 ≡ get_or lending k (pos 0)) × (y.1 ≡ get_or borrowing k (pos 0))
+  year_at k y h e =
+      let long = later_long flow n f in
+      let p = pairs_long in
+      let all = e ∙ get_or-zip (zip (later flow n) lending) borrowing k y (omega arith) (omega arith) in
+      let pair = get_or-zip (later flow n) lending k y.0 (omega arith) (omega arith) in
+      let j : 1 + k ≡ k + 1 = omega arith in (
+        ap (λ (y : (ℤ × ℤ) × ℤ). y.0.0) all ∙ ap (λ (p : ℤ × ℤ). p.0) pair ∙ get_or_default (later flow n) k y.0.0 (pos 0) (omega arith)
+            ∙ get_or-take (n - 1) (drop 1 flow) k (pos 0) h ∙ get_or-drop 1 flow k (pos 0) ∙ ap (λ (i : ℕ). get_or flow i (pos 0)) j,
+        ap (λ (y : (ℤ × ℤ) × ℤ). y.0.1) all ∙ ap (λ (p : ℤ × ℤ). p.1) pair ∙ get_or_default lending k y.0.1 (pos 0) (omega arith),
+        ap (λ (y : (ℤ × ℤ) × ℤ). y.1) all ∙ get_or_default borrowing k y.1 (pos 0) (omega arith),
+      )

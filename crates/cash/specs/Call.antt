@@ -8,7 +8,7 @@ use Rattle.plan.specs.Numbers.{Numbers}
 use Rattle.plan.specs.Refusal.{check, first_of, answer, top, head_refusal, refusal_with}
 use Rattle.patterns.specs.Pattern.{shared_of, flow_of}
 use Rattle.planner.specs.Verdict.{word_of}
-use Rattle.cash.specs.declared.CashAnswer.{CashAnswer}
+use Rattle.cash.specs.Answers.{CashAnswer}
 use Rattle.cash.specs.Account.{account, h, g}
 
 -- what a refusal holds: its number, and zeros

@@ -1,5 +1,5 @@
 -- Worked cases of the cash account: what the definitions give beside what they are to give.
-use Rattle.std.specs.Prelude.{true, false, List, [], ◌∷◌, ◌++◌, ℕ, ◌-◌, ℤ, pos, negsuc, replicate}
+use Rattle.std.specs.Prelude.{true, List, [], ◌∷◌, ◌++◌, ℕ, ◌-◌, ℤ, pos, negsuc, replicate, None}
 use Rattle.whole.specs.Case.{Case}
 use Rattle.whole.specs.Entry.{nth}
 use Rattle.reckoning.specs.Arrays.{rates_of}
@@ -8,7 +8,7 @@ use Rattle.plan.specs.Numbers.{numbers}
 use Rattle.plan.specs.Case.{plan_L, renewed, longer}
 use Rattle.plan.specs.declared.Plan.{Plan}
 use Rattle.planner.specs.Verdict.{solvent, short, close}
-use Rattle.cash.specs.declared.CashAnswer.{CashAnswer}
+use Rattle.cash.specs.Answers.{CashAnswer}
 use Rattle.cash.specs.Account.{account, X, g}
 use Rattle.cash.specs.Call.{cash_answer}
 
@@ -79,10 +79,8 @@ paid_yearly years payment outflow = record {
   rollover = 1_000_000 ∷ replicate 29 0;
   pattern = replicate 64 no_pattern;
   allocation = 1_000_000 ∷ replicate 15 0;
-  opened = false;
-  opening = replicate 30 (pos 0);
-  costed = false;
-  cost = replicate 16 (pos 0);
+  opening = None;
+  cost = None;
 }
 
 -- 1000000000 in each of two years, at 5 percent: 2050000000 less the outflow, with a bound of 4

@@ -5,7 +5,7 @@ use Rattle.reckoning.specs.Arrays.{rates_of}
 use Rattle.plan.specs.Numbers.{Numbers}
 use Rattle.patterns.specs.Pattern.{shared_of, exact_flow_of}
 use Rattle.planner.specs.Verdict.{solvent, short}
-use Rattle.cash.specs.declared.CashAnswer.{CashAnswer}
+use Rattle.cash.specs.Answers.{CashAnswer}
 use Rattle.cash.specs.Account.{account, X, h, g}
 
 -- an account v in amounts, where the exact account of t years is X / 10^(6 t): the exact one is never below v, and less than v + b

@@ -10,7 +10,7 @@ use Rattle.plan.specs.Numbers.{Numbers, meaning}
 use Rattle.plan.specs.Refusal.{check, first_of, answer, head_ok, payments_ok, payments_fit, outflows_ok, opening_ok, cost_ok, amounts_ok, rollover_ok, untils_ok, rates_ok, rates_fit, allocation_ok, head_refusal, amounts_refusal, rates_refusal, allocation_refusal, refusal_of}
 use Rattle.planner.specs.Verdict.{solvent}
 use Rattle.planner.specs.Alike.{meant}
-use Rattle.planner.specs.declared.VerdictAnswer.{VerdictAnswer}
+use Rattle.planner.specs.Answers.{VerdictAnswer}
 use Rattle.planner.proofs.Alike.{refusal_meant, same_meant as means_same, spelled_meant}
 use Rattle.finder.specs.Grid.{allocations}
 use Rattle.finder.specs.Find.{not_found, allocated, solvent_with, first_that, find_refusal, find_answer}

@@ -7,6 +7,9 @@ use native.Mathlib.Omega.{arith}
 use borrow.Author.Tests.{le-leb, lt-leb, eq-eqb}
 use lib.Dec.{eqb, leb}
 use lib.ListN.{get_or, replicate, length-replicate}
+use Rattle.std.specs.Prelude.{Some, None, Ok}
+use Rattle.refusal.specs.Number.{number_of}
+use Rattle.refusal.specs.declared.Refusal.{Refusal}
 use Rattle.whole.specs.Range.{million}
 use Rattle.whole.specs.Sum.{sum_ℕ}
 use Rattle.whole.specs.Test.{pick, both}
@@ -17,17 +20,19 @@ use Rattle.plan.specs.Held.{held}
 use Rattle.plan.specs.Numbers.{Numbers, numbers}
 use Rattle.plan.specs.Refusal.{check, first_of, answer, head_ok, amounts_ok, rollover_ok, untils_ok, rates_ok, allocation_ok, head_refusal, amounts_refusal, rates_refusal, allocation_refusal, refusal_of, Accepted}
 use Rattle.plan.specs.declared.Plan.{Plan}
-use Rattle.plan.proofs.Checks.{check_true, first_some, first_none, first_next, not_refused, answer_accepted, accepted, accepted_none}
+use Rattle.plan.proofs.Checks.{check_true, first_some, first_none, first_next, not_refused, answer_refused, answer_accepted, accepted, accepted_none}
+use Rattle.plan.proofs.Number.{number_some}
 use Rattle.planner.specs.Verdict.{solvent, verdict_answer}
-use Rattle.planner.proofs.Answers.{out_refused, out_accepted}
-use Rattle.finder.specs.declared.FindAnswer.{FindAnswer}
+use Rattle.finder.specs.Answers.{FindAnswer}
 use Rattle.finder.specs.Grid.{OnGrid, allocations}
 use Rattle.finder.specs.Find.{not_found, with_allocation, allocated, solvent_with, first_that, is_among, parts_taken, find_refusal, find_answer}
 use Rattle.finder.specs.Claims.{Found, FindTrue}
 use Rattle.finder.specs.Alike.{FindAlike}
-use Rattle.finder.specs.declared.Split.{Split}
+use Rattle.finder.specs.Search.{split_shown}
+use Rattle.finder.specs.Shown.{find_shown}
+use Rattle.finder.specs.declared.splits.Split.{Split}
 use Rattle.finder.specs.Lines.{wide_of}
-use Rattle.finder.specs.Placing.{Placing, placements, Tells}
+use Rattle.finder.specs.Placing.{Placing, placements}
 use Rattle.finder.proofs.Parts.{Parts, parts_have}
 use Rattle.finder.proofs.Grid.{Each, OfList, each_unmap, allocations_each, grid_stands, grid_same}
 use Rattle.finder.proofs.Order.{wide_at, placements_all}
@@ -37,28 +42,28 @@ use Rattle.finder.proofs.Alike.{find_alike}
 
 -- ---- the ways out of the call
 module _ (P : Numbers) (D : ℕ) where
-  pub find_refused : {number : ℕ} {s : FindAnswer} → number ≡ refusal_of P → (number ≡ 0 → ⊥) → s ≡ not_found number → s ≡ find_answer P D
+  pub find_refused : (e : Refusal) → number_of e ≡ refusal_of P → not_found (number_of e) ≡ find_answer P D
   unfolding find_answer find_refusal
-  find_refused e h g = g ∙ out_refused not_found _ (e ∙ sym (first_some (refusal_of P) _ (λ z. h (e ∙ z)))) h
+  find_refused e h =
+      let some = number_some e in
+      sym (answer_refused not_found (number_of e) (first_that (solvent_with P) (allocations P.instruments D)) some)
+      ∙ ap (λ (n : ℕ). answer not_found n (first_that (solvent_with P) (allocations P.instruments D))) (h ∙ sym (first_some (refusal_of P) _ (λ z. some (h ∙ z))))
 
   module _ (ok : Accepted P) where
-    parts_refuse : both (is_among parts_taken D) (leb P.instruments 4) ≡ false → 15 ≡ find_refusal P D
-    unfolding find_refusal
-    parts_refuse e = rw (accepted_none ok, e)
-
-    pub find_uneven : {s : FindAnswer} → is_among parts_taken D ≡ false → s ≡ not_found 15 → s ≡ find_answer P D
-    unfolding find_answer
-    find_uneven e g = g ∙ out_refused not_found _ (parts_refuse (rw e)) (λ z. omega arith)
-
-    pub find_crowded : {s : FindAnswer} → 4 < P.instruments → s ≡ not_found 15 → s ≡ find_answer P D
-    unfolding find_answer
-    find_crowded h g = g ∙ out_refused not_found _ (parts_refuse (rw (lt-leb P.instruments 4 h) (both_not (is_among parts_taken D)))) (λ z. omega arith)
-
-    pub find_searched : {s : FindAnswer} → is_among parts_taken D ≡ true → P.instruments ≤ 4 → s ≡ first_that (solvent_with P) (allocations P.instruments D) → s ≡ find_answer P D
+    -- check 15 refuses the number of parts, or that of the instruments
+    parts_refused : both (is_among parts_taken D) (leb P.instruments 4) ≡ false → not_found 15 ≡ find_answer P D
     unfolding find_answer find_refusal
-    find_searched {s} taken few e =
-        let none : find_refusal P D ≡ 0 = rw (accepted_none ok, taken, le-leb P.instruments 4 few) in
-        out_accepted not_found none e
+    parts_refused e = rw (accepted_none ok, e) refl
+
+    pub find_uneven : is_among parts_taken D ≡ false → not_found 15 ≡ find_answer P D
+    find_uneven e = parts_refused (rw e refl)
+
+    pub find_crowded : 4 < P.instruments → not_found 15 ≡ find_answer P D
+    find_crowded h = parts_refused (rw (lt-leb P.instruments 4 h) (both_not (is_among parts_taken D)))
+
+    pub find_searched : is_among parts_taken D ≡ true → P.instruments ≤ 4 → first_that (solvent_with P) (allocations P.instruments D) ≡ find_answer P D
+    unfolding find_answer find_refusal
+    find_searched taken few = rw (accepted_none ok, taken, le-leb P.instruments 4 few) refl
 
 replicate_none : (n j : ℕ) → get_or {A = ℕ} (replicate n 0) j 0 ≡ 0
 replicate_none zero j = refl
@@ -108,12 +113,11 @@ module _ (P : Numbers) (D : ℕ) (ok : Accepted P) (taken : is_among parts_taken
         ∙ ap (λ (a : FindAnswer). pick a.found (hit (wide_of a.shares)) (not_found 0))
         (first_cong (λ p. solvent_with P (wide_of p)) test placed (λ k l. sym (same (get_or placed k []) (placed_whole k l))))
 
-    module _ {c : Split} (tells : Tells c (first_that test placed)) where
-      pub search_none : c.found ≡ false → {s : FindAnswer} → s ≡ not_found 0 → s ≡ all
-      search_none f e = e ∙ sym (search_map ∙ rw (sym tells.found ∙ f))
+    pub search_none : split_shown None ≡ first_that test placed → find_shown (Ok None) ≡ all
+    search_none tells = sym (search_map ∙ rw (← tells) refl)
 
-      pub search_found : c.found ≡ true → {shares : List ℕ} → shares ≡ wide_of c.shares → record { refusal = 0; found = true; shares = shares } ≡ all
-      search_found f {shares} e = ap hit (e ∙ ap wide_of (tells.shares f)) ∙ sym (search_map ∙ rw (sym tells.found ∙ f))
+    pub search_found : (s : Split) → split_shown (Some s) ≡ first_that test placed → {w : List ℕ} → w ≡ wide_of s.shares → find_shown (Ok (Some w)) ≡ all
+    search_found s tells e = ap hit e ∙ sym (search_map ∙ rw (← tells) refl)
 
 -- ---- what stands past n plays no part
 solvent_cong : (P : Numbers) (a b : List ℕ) → ((j : ℕ) → j < P.instruments → get_or a j 0 ≡ get_or b j 0) → solvent_with P a ≡ solvent_with P b

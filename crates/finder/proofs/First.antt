@@ -7,9 +7,8 @@ use native.Mathlib.Omega.{arith}
 use lib.ListN.{replicate}
 use Rattle.whole.specs.Test.{pick}
 use Rattle.whole.proofs.Test.{false_true}
-use Rattle.finder.specs.declared.FindAnswer.{FindAnswer}
+use Rattle.finder.specs.Answers.{FindAnswer}
 use Rattle.finder.specs.Find.{not_found, first_that}
-use Rattle.finder.specs.Placing.{Tells}
 use Rattle.finder.proofs.Grid.{Each, Stands, later}
 
 -- what is found
@@ -17,15 +16,6 @@ abbrev pub hit : List ℕ → FindAnswer
 hit p = record { refusal = 0; found = true; shares = p }
 
 module _ (test : List ℕ → Bool) where
-  -- ---- of one allocation
-  pub one_tells : (p : List ℕ) {b : Bool} → b ≡ test p → Tells (record { found = b; shares = p }) (first_that test (p ∷ []))
-  unfolding first_that
-  one_tells p {b} e = rw (← e) (go b)
-    where
-      go : (b : Bool) → Tells (record { found = b; shares = p }) (pick b (hit p) (not_found 0))
-      go true = record { found = refl; shares = λ f. refl }
-      go false = record { found = refl; shares = λ f. absurd (false_true f) }
-
   -- ---- of a list and then another: what the first has is found, and where it has none the second decides
   pub first_found : (xs ys : List (List ℕ)) → (first_that test xs).found ≡ true → first_that test xs ≡ first_that test (xs ++ ys)
   unfolding first_that

@@ -1,68 +1,79 @@
--- How the code makes a line of the form and the bound, and what a fund says of one pattern.
-use mathlib.Core.Path.{◌≡◌, refl, ap, sym, ◌∙◌}
+-- How the code makes a line of K_1 to K_n, Q and the bound, and what a fund says of one pattern.
+use mathlib.Core.Path.{◌≡◌, refl, ap, ◌∙◌}
 use mathlib.Core.Bool.{Bool, true, false}
 use mathlib.Core.List.{List}
 use Prim.Native.Nat.{ℕ}
 use native.Mathlib.Omega.{arith}
-use lib.IntN.{ℤ, pos, ◌+ℤ◌, ◌*ℤ◌}
-use lib.Signed.{lt_z}
-use Rattle.whole.specs.Range.{million, limit, Within}
-use Rattle.whole.specs.Test.{both}
-use Rattle.whole.proofs.Test.{both_second, both_not, picked_yes, picked_no, picked_is, lt_true, lt_false, le_le_Z, lt_le_Z}
-use Rattle.reckoning.specs.declared.Reckoned.{Reckoned}
-use Rattle.plan.specs.declared.Shape.{Shape}
-use Rattle.patterns.specs.Pattern.{Shared, bound_at, coefficients_fit, constant_fits, constant_at, flow_fits, fund_at, flow_of, left_of, flow_reckoned, form_reckoned}
-use Rattle.patterns.specs.declared.FormAnswer.{FormAnswer}
-use Rattle.patterns.proofs.Reckoned.{reckoned_refused, reckoned_fits, reckoned_is}
-use Rattle.finder.specs.Lines.{line_from, over_all, line_of, fund_passes, below_none, looked, passes}
-use Rattle.finder.proofs.Lines.{constant_within}
+use lib.IntN.{ℤ, pos, ◌+ℤ◌, ◌*ℤ◌, +ℤ_idr}
+use lib.Signed.{le_z}
+use Rattle.whole.specs.Range.{million}
+use Rattle.whole.proofs.Test.{both_not, picked_yes, picked_no, picked_is}
+use Rattle.reckoning.specs.Reckoning.{fund}
+use Rattle.reckoning.specs.Answers.{Reckoned}
+use Rattle.reckoning.specs.declared.NewMoney.{NewMoney}
+use Rattle.reckoning.specs.Arrays.{fund_reckoned}
+use Rattle.patterns.specs.declared.common.Common.{Common}
+use Rattle.patterns.specs.Answers.{Coefficients}
+use Rattle.patterns.specs.Pattern.{Shared, bound_at, coefficients_fit, constant_fits, coefficients_at, constant_at, flow_fits, fund_at, flow_reckoned, coefficients_reckoned}
+use Rattle.finder.specs.Lines.{line_from, over_all, line_of, fund_passes}
+use Rattle.finder.specs.Search.{below_none, looked, passes}
+use Rattle.finder.specs.declared.lines.Line.{Line}
 
--- ---- a line, by the form f of a pattern of the rates i
-module _ (S : Shared) (i : ℕ → ℤ) {f : FormAnswer} (e : f ≡ form_reckoned S i) where
-  abbrev fits : Bool
-  fits = both (coefficients_fit S i) (constant_fits S i)
+module _ (S : Shared) (i : ℕ → ℤ) where
+  -- ---- K_1 to K_n
+  module _ {a : Coefficients} (e : a ≡ coefficients_reckoned S i) where
+    pub coefficients_refused : (a.refusal ≡ 0 → ⊥) → over_all ≡ line_of S i
+    unfolding coefficients_reckoned line_of
+    coefficients_refused h = rw (picked_no (λ (a : Coefficients). a.refusal) _ _ refl (λ z. omega arith) (coefficients_fit S i) a e h) refl
 
-  pub line_refused : (f.refusal ≡ 0 → ⊥) → over_all ≡ line_of S i
-  unfolding form_reckoned line_of
-  line_refused h = rw (picked_no (λ (f : FormAnswer). f.refusal) _ _ refl (λ z. omega arith) fits f e h)
+    module _ (none : a.refusal ≡ 0) where
+      pub coefficients_taken : coefficients_fit S i ≡ true
+      unfolding coefficients_reckoned
+      coefficients_taken = picked_yes (λ (a : Coefficients). a.refusal) _ _ refl (λ z. omega arith) (coefficients_fit S i) a e none
 
-  module _ (none : f.refusal ≡ 0) where
-    form_fits : fits ≡ true
-    unfolding form_reckoned
-    form_fits = picked_yes (λ (f : FormAnswer). f.refusal) _ _ refl (λ z. omega arith) fits f e none
+      pub coefficients_are : a.values ≡ coefficients_at S i
+      unfolding coefficients_reckoned
+      coefficients_are = ap (λ (a : Coefficients). a.values) (picked_is (λ (a : Coefficients). a.refusal) _ _ refl (λ z. omega arith) (coefficients_fit S i) a e none)
 
-    constant_is : f.constant ≡ constant_at S i
-    unfolding form_reckoned
-    constant_is = ap (λ (f : FormAnswer). f.constant) (picked_is (λ (f : FormAnswer). f.refusal) _ _ refl (λ z. omega arith) fits f e none)
+  -- ---- Q
+  module _ {b : Reckoned} (e : b ≡ fund_reckoned S.r i S.constant_flow S.years (pos 0)) where
+    pub constant_refused : (b.refusal ≡ 0 → ⊥) → over_all ≡ line_of S i
+    unfolding fund_reckoned constant_fits line_of
+    constant_refused h = rw (picked_no (λ (b : Reckoned). b.refusal) _ _ refl (λ z. omega arith) (constant_fits S i) b e h, both_not (coefficients_fit S i)) refl
 
-    pub form_constant_within : Within limit f.constant
-    form_constant_within = rw constant_is (constant_within S i (both_second (coefficients_fit S i) _ form_fits))
+    module _ (none : b.refusal ≡ 0) where
+      pub constant_taken : constant_fits S i ≡ true
+      unfolding fund_reckoned constant_fits
+      constant_taken = picked_yes (λ (b : Reckoned). b.refusal) _ _ refl (λ z. omega arith) (constant_fits S i) b e none
 
-    pub line_made : {b : ℤ} → b ≡ pos (bound_at S i) → line_from f.coefficients (pos million *ℤ (f.constant +ℤ pos 2 *ℤ b)) ≡ line_of S i
-    unfolding form_reckoned line_of
-    line_made {b} g = rw (form_fits, g, picked_is (λ (f : FormAnswer). f.refusal) _ _ refl (λ z. omega arith) fits f e none)
+      pub constant_is : b.fund ≡ constant_at S i
+      unfolding fund_reckoned constant_fits constant_at
+      constant_is = ap (λ (b : Reckoned). b.fund) (picked_is (λ (b : Reckoned). b.refusal) _ _ refl (λ z. omega arith) (constant_fits S i) b e none) ∙ +ℤ_idr (fund S.r i S.years S.constant_flow)
 
--- ---- the fund c of the allocation's flow
-module _ (S : Shared) (i : ℕ → ℤ) {c : Reckoned} (e : c ≡ flow_reckoned S i) where
-  pub fund_refused : (c.refusal ≡ 0 → ⊥) → fund_passes S i ≡ false
-  unfolding fund_passes flow_fits
-  fund_refused h = rw (reckoned_refused S.r i (flow_of S) S.years (left_of S) e h)
+  -- ---- the line of both
+  pub line_made : coefficients_fit S i ≡ true → constant_fits S i ≡ true → {k : List ℤ} {q b : ℤ} → k ≡ coefficients_at S i → q ≡ constant_at S i → b ≡ pos (bound_at S i)
+      → line_from k (pos million *ℤ (q +ℤ pos 2 *ℤ b)) ≡ line_of S i
+  unfolding line_of
+  line_made f g e h k = rw (f, g, e, h, k) refl
 
-  module _ (none : c.refusal ≡ 0) where
-    pub fund_below : lt_z c.fund (pos 0) ≡ true → fund_passes S i ≡ false
-    unfolding fund_passes fund_at
-    fund_below h = rw (← reckoned_is S.r i (flow_of S) S.years (left_of S) e none, lt_le_Z (pos 0) c.fund (lt_true _ _ h)) (both_not (flow_fits S i))
+  -- ---- the fund of the allocation's flow
+  module _ {c : Reckoned} (e : c ≡ flow_reckoned S i) where
+    pub fund_refused : (c.refusal ≡ 0 → ⊥) → false ≡ fund_passes S i
+    unfolding fund_passes flow_fits fund_reckoned
+    fund_refused h = rw (picked_no (λ (c : Reckoned). c.refusal) _ _ refl (λ z. omega arith) (flow_fits S i) c e h) refl
 
-    pub fund_passes_law : lt_z c.fund (pos 0) ≡ false → fund_passes S i ≡ true
-    unfolding fund_passes flow_fits fund_at
-    fund_passes_law h = rw (reckoned_fits S.r i (flow_of S) S.years (left_of S) e none, ← reckoned_is S.r i (flow_of S) S.years (left_of S) e none) (le_le_Z (pos 0) c.fund (lt_false _ _ h))
+    pub fund_taken : c.refusal ≡ 0 → le_z (pos 0) c.fund ≡ fund_passes S i
+    unfolding fund_passes flow_fits fund_at fund_reckoned
+    fund_taken none =
+        rw (picked_yes (λ (c : Reckoned). c.refusal) _ _ refl (λ z. omega arith) (flow_fits S i) c e none)
+        (ap (λ (c : Reckoned). le_z (pos 0) c.fund) (picked_is (λ (c : Reckoned). c.refusal) _ _ refl (λ z. omega arith) (flow_fits S i) c e none))
 
 -- ---- shares that lie below no line are looked at, and no others
-module _ (s : Shape) (lines rates payments : List (List ℤ)) (constant rollover cost : List ℤ) (shares : List ℕ) {b : Bool} (e : b ≡ below_none s.patterns lines shares) where
-  pub passes_not : b ≡ false → false ≡ passes s lines rates payments constant rollover cost shares
+module _ (c : Common) (rates : List NewMoney) (lines : List Line) (shares : List ℕ) where
+  pub passes_not : false ≡ below_none lines shares → false ≡ passes c rates lines shares
   unfolding passes
-  passes_not f = rw (sym e ∙ f)
+  passes_not e = rw (← e) refl
 
-  pub passes_look : b ≡ true → {good : Bool} → good ≡ looked s rates payments constant rollover cost shares → good ≡ passes s lines rates payments constant rollover cost shares
+  pub passes_looked : true ≡ below_none lines shares → {b : Bool} → b ≡ looked c rates shares → b ≡ passes c rates lines shares
   unfolding passes
-  passes_look f {good} g = rw (sym e ∙ f) g
+  passes_looked e f = rw (← e) f

@@ -1,43 +1,28 @@
--- The numbers of parts that check 15 takes: a loop over their list, and what each of them has.
+-- The numbers of parts that check 15 takes: that the code looks them up, and what each of them has.
 use mathlib.Core.Path.{◌≡◌, refl, sym, subst}
 use mathlib.Core.Bool.{Bool, true, false}
 use mathlib.Core.List.{List, [], ◌∷◌}
-use Prim.Native.Nat.{ℕ, zero, suc, ◌*◌, ◌/◌, ◌≤◌, ◌<◌}
+use Prim.Native.Nat.{ℕ, suc, ◌*◌, ◌/◌, ◌≤◌, ◌<◌}
 use native.Mathlib.Omega.{arith}
-use borrow.Author.Tests.{eq-eqb, eqb-true, leb-true}
+use borrow.Author.Tests.{eq-eqb, ne_eqb, eqb-true, eqb-false, leb-true}
 use lib.Dec.{eqb, leb}
 use lib.ListN.{length, get_or}
+use Rattle.std.specs.Prelude.{◌||◌}
+use Rattle.std.specs.List.{list_any}
 use Rattle.whole.specs.Range.{million}
 use Rattle.whole.specs.Test.{pick, both, all}
 use Rattle.whole.proofs.Test.{false_true, both_first, both_second, all_at}
 use Rattle.finder.specs.Find.{is_among, parts_taken}
 
-among_is : (xs : List ℕ) (k d : ℕ) → k < length xs → get_or xs k 0 ≡ d → true ≡ is_among xs d
+-- what a list has is among it
+pub any_among : (xs : List ℕ) (d : ℕ) → list_any (λ y. eqb y d) xs ≡ is_among xs d
 unfolding is_among
-among_is [] k d h e = absurd (omega arith)
-among_is (x ∷ xs) zero d h e = rw (eq-eqb d x (sym e))
-among_is (x ∷ xs) (suc k) d h e = go (eqb d x) (among_is xs k d (omega arith) e)
+any_among [] d = refl
+any_among (x ∷ xs) d = go (eqb x d) refl (any_among xs d)
   where
-    go : (b : Bool) → true ≡ is_among xs d → true ≡ pick b true (is_among xs d)
-    go true h = refl
-    go false h = h
-
-among_not : (xs : List ℕ) (d : ℕ) → ((k : ℕ) → k < length xs → get_or xs k 0 ≡ d → ⊥) → false ≡ is_among xs d
-unfolding is_among
-among_not [] d h = refl
-among_not (x ∷ xs) d h = go (eqb d x) refl (among_not xs d (λ k l e. h (suc k) (omega arith) e))
-  where
-    go : (b : Bool) → eqb d x ≡ b → false ≡ is_among xs d → false ≡ pick b true (is_among xs d)
-    go true e g = absurd (h 0 (omega arith) (sym (eqb-true d x e)))
-    go false e g = g
-
-pub parts_is : {k d : ℕ} → k < 10 → get_or (1 ∷ 2 ∷ 4 ∷ 5 ∷ 8 ∷ 10 ∷ 16 ∷ 20 ∷ 25 ∷ 40 ∷ []) k 0 ≡ d → true ≡ is_among parts_taken d
-unfolding parts_taken
-parts_is h e = among_is parts_taken _ _ h e
-
-pub parts_not : {d : ℕ} → ((k : ℕ) → k < 10 → get_or (1 ∷ 2 ∷ 4 ∷ 5 ∷ 8 ∷ 10 ∷ 16 ∷ 20 ∷ 25 ∷ 40 ∷ []) k 0 ≡ d → ⊥) → false ≡ is_among parts_taken d
-unfolding parts_taken
-parts_not h = among_not parts_taken _ h
+    go : (b : Bool) → eqb x d ≡ b → list_any (λ y. eqb y d) xs ≡ is_among xs d → b || list_any (λ y. eqb y d) xs ≡ pick (eqb d x) true (is_among xs d)
+    go true e h = rw (eq-eqb d x (sym (eqb-true x d e))) refl
+    go false e h = rw (ne_eqb d x (λ k. eqb-false x d e (sym k))) h
 
 -- ---- what each has
 pub record Parts (d : ℕ) : Type 0 where
@@ -69,3 +54,11 @@ each_has = refl
 pub parts_have : (d : ℕ) → is_among parts_taken d ≡ true → Parts d
 unfolding parts_taken
 parts_have = each_of Parts parts_taken (λ k h. parts_of (get_or parts_taken k 0) (all_at 10 (λ k. has_parts (get_or parts_taken k 0)) k h each_has))
+
+-- no number above 40 is taken
+pub among_many : (d : ℕ) → 40 < d → is_among parts_taken d ≡ false
+among_many d h = go (is_among parts_taken d) refl
+  where
+    go : (b : Bool) → is_among parts_taken d ≡ b → is_among parts_taken d ≡ false
+    go true e = absurd (omega (arith, (parts_have d e).few))
+    go false e = e

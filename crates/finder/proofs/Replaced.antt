@@ -24,7 +24,7 @@ use Rattle.patterns.specs.Pattern.{shared_of, fund_at}
 use Rattle.planner.specs.Calls.{exact_fund}
 use Rattle.planner.specs.Verdict.{solvent, short, close, word_of, bits_of, plan_word_of, no_verdict, row_fits, word_at, pattern_word, verdict_refusal, short_bits, plan_word, verdict_answer}
 use Rattle.planner.specs.Demand3.{VerdictTrue}
-use Rattle.planner.specs.declared.VerdictAnswer.{VerdictAnswer}
+use Rattle.planner.specs.Answers.{VerdictAnswer}
 use Rattle.planner.proofs.Bits.{none_bits}
 use Rattle.planner.proofs.Demand3.{verdict_true}
 use Rattle.finder.specs.Find.{allocated, solvent_with}
@@ -42,9 +42,7 @@ replaced plan shares = record {
   pattern = plan.pattern;
   allocation = shares;
   opening = plan.opening;
-  opened = plan.opened;
   cost = plan.cost;
-  costed = plan.costed;
 }
 
 pub replaced_numbers : (plan : Plan) (shares : List ℕ) → numbers (replaced plan shares) ≡ allocated (numbers plan) shares

@@ -1,12 +1,12 @@
 -- Worked cases of the search: what the definitions give beside what they are to give.
-use Rattle.std.specs.Prelude.{true, false, List, [], ◌∷◌, ◌++◌, ℕ, ℤ, pos, get_or, length, replicate}
+use Rattle.std.specs.Prelude.{true, false, List, [], ◌∷◌, ◌++◌, ℕ, ℤ, pos, get_or, length, replicate, Some, None}
 use Rattle.whole.specs.Case.{Case}
 use Rattle.whole.specs.Test.{pick}
 use Rattle.plan.specs.Held.{no_instrument, no_pattern}
 use Rattle.plan.specs.Numbers.{Numbers, numbers}
 use Rattle.plan.specs.Case.{listed, plan_L, one_year, longer}
 use Rattle.plan.specs.declared.Plan.{Plan}
-use Rattle.finder.specs.declared.FindAnswer.{FindAnswer}
+use Rattle.finder.specs.Answers.{FindAnswer}
 use Rattle.finder.specs.Grid.{splits, allocations}
 use Rattle.finder.specs.Find.{allocated, find_answer}
 
@@ -62,10 +62,8 @@ paid_yearly years first second money = record {
   rollover = 1_000_000 ∷ replicate 29 0;
   pattern = listed (replicate 30 (pos 200_000)) ∷ replicate 63 no_pattern;
   allocation = 1_000_000 ∷ replicate 15 0;
-  opened = true;
-  opening = replicate 30 money;
-  costed = false;
-  cost = replicate 16 (pos 0);
+  opening = Some (replicate 30 money);
+  cost = None;
 }
 
 -- check 11 refuses the plan's own allocation, and the other one is found; where it refuses a note by itself none is, and the call is not

@@ -5,7 +5,7 @@ use Rattle.plan.specs.Numbers.{Numbers}
 use Rattle.plan.specs.Refusal.{refusal_of}
 use Rattle.planner.specs.Calls.{exact_fund}
 use Rattle.planner.specs.Verdict.{solvent, verdict_answer}
-use Rattle.finder.specs.declared.FindAnswer.{FindAnswer}
+use Rattle.finder.specs.Answers.{FindAnswer}
 use Rattle.finder.specs.Grid.{OnGrid}
 use Rattle.finder.specs.Find.{allocated, find_answer}
 

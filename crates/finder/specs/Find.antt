@@ -5,7 +5,7 @@ use Rattle.whole.specs.Entry.{entry}
 use Rattle.plan.specs.Numbers.{Numbers}
 use Rattle.plan.specs.Refusal.{check, first_of, answer, refusal_of}
 use Rattle.planner.specs.Verdict.{solvent, verdict_answer}
-use Rattle.finder.specs.declared.FindAnswer.{FindAnswer}
+use Rattle.finder.specs.Answers.{FindAnswer}
 use Rattle.finder.specs.Grid.{allocations}
 
 -- what a refusal holds: its number, no allocation, and zeros

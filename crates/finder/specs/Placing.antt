@@ -1,9 +1,7 @@
 -- What the recursion goes through: the allocations that agree with the shares placed so far.
-use Rattle.std.specs.Prelude.{true, List, [], ◌∷◌, ◌≡◌, ℕ, zero, suc, ◌+◌, ◌-◌, ◌*◌, ◌≤◌, ◌<◌, length, get_or, set}
+use Rattle.std.specs.Prelude.{List, [], ◌∷◌, ◌≡◌, ℕ, zero, suc, ◌+◌, ◌-◌, ◌*◌, ◌≤◌, ◌<◌, length, get_or, set}
 use Rattle.whole.specs.Range.{million}
 use Rattle.whole.specs.Sum.{sum_ℕ}
-use Rattle.finder.specs.declared.FindAnswer.{FindAnswer}
-use Rattle.finder.specs.declared.Split.{Split}
 use Rattle.finder.specs.Grid.{down_from}
 
 -- every way to place the parts left on the instrument at a place and on the others behind it
@@ -19,8 +17,3 @@ pub record Placing (n : ℕ) (shares : List ℕ) (at others parts unit : ℕ) : 
   pub few : parts ≤ 40
   pub behind : (j : ℕ) → at < j → get_or shares j 0 ≡ 0
   pub whole : sum_ℕ at (λ j. get_or shares j 0) + parts * unit ≡ million
-
--- what a branch of the search comes to, beside the answer a
-pub record Tells (s : Split) (a : FindAnswer) : Type 0 where
-  pub found : s.found ≡ a.found
-  pub shares : s.found ≡ true → s.shares ≡ a.shares

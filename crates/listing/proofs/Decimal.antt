@@ -7,15 +7,16 @@ use Prim.Native.Nat.{ℕ, zero, suc, ◌+◌, ◌-◌, ◌/◌, ◌%◌, ◌^◌
 use native.Mathlib.Nat.{pow-suc}
 use native.Mathlib.Omega.{arith}
 use borrow.Author.Tests.{lt-ltb, le-ltb}
-use lib.IntN.{ℤ, pos, negsuc, nat_abs, ◌-ℤ◌}
-use lib.Signed.{le_z}
+use lib.IntN.{ℤ, pos, negsuc, nat_abs}
+use lib.Signed.{lt_z, clash_ℤ}
+use native.Mathlib.Numerals.{add-one}
 use mir.Syntax.{w64}
 use mir.Val.{SFits, to_z, of_z}
 use Rattle.io.specs.Digits.{last_digits, IsDigitCount}
 use Rattle.whole.proofs.Bridge.{at, #, ◌⊖◌, whole}
 use Rattle.whole.proofs.Laws.{ℕ_cases, pos_nonneg}
 use Rattle.whole.proofs.Range.{back}
-use Rattle.whole.proofs.Test.{false_true, le_le_Z}
+use Rattle.whole.proofs.Test.{false_true, lt_true}
 use Rattle.little_endian.specs.Wrote.{Wrote}
 use Rattle.little_endian.proofs.Wrote.{wrote_none, wrote_then, wrote_as}
 use Rattle.listing.specs.Text.{digits_in, decimal, signed_text}
@@ -59,34 +60,29 @@ pub decimal_fewest : (n : ℕ) → n < 10 ^ 20 → (m : ℕ) × IsDigitCount 10 
 decimal_fewest n h = shown 19 n h
 
 -- ---- the three ways to put digits down
-module _ (n : ℕ) where
-  pub put_none : {l : List ℕ} {at most : ℕ} → most ≡ 0 → Wrote l l at (digits_in most n) at
-  unfolding digits_in
-  put_none {most = zero} e = wrote_none _ _
-  put_none {most = suc k} e = absurd (omega arith)
+pub no_digits : (n : ℕ) {most : ℕ} → most ≡ 0 → [] ≡ digits_in most n
+unfolding digits_in
+no_digits n e = rw e refl
 
-  pub put_one : {l l' : List ℕ} {at most x r : ℕ} → (most ≡ 0 → ⊥) → n < 10 → x ≡ 48 + n % 10 → Wrote l l' at (x ∷ []) r → Wrote l l' at (digits_in most n) r
-  put_one {most = zero} h k e w = absurd (h refl)
-  put_one {most = suc i} h k e w = wrote_as (ap (λ (y : ℕ). y ∷ []) e ∙ digits_one i n k) w
+-- room for one digit more
+pub room : {most : ℕ} → (most ≡ 0 → ⊥) → most ≡ suc (most - 1)
+room {most = zero} h = absurd (h refl)
+room {most = suc k} h = omega arith
 
-  pub put_more : {l l' l'' : List ℕ} {at most x p r : ℕ} → (most ≡ 0 → ⊥) → 10 ≤ n → x ≡ 48 + n % 10 →
-      Wrote l l' at (digits_in (most - 1) (n / 10)) p → Wrote l' l'' p (x ∷ []) r → Wrote l l'' at (digits_in most n) r
-  put_more {most = zero} h k e u w = absurd (h refl)
-  put_more {most = suc i} h k e u w =
-      let j : suc i - 1 ≡ i = omega arith in
-      wrote_as (ap₂ (λ (i y : ℕ). digits_in i (n / 10) ++ (y ∷ [])) j e ∙ digits_more i n k) (wrote_then u w)
+module _ {n most : ℕ} (some : most ≡ 0 → ⊥) where
+  pub one_digit : n < 10 → (48 + n % 10) ∷ [] ≡ digits_in most n
+  one_digit h = digits_one (most - 1) n h ∙ ap (λ (k : ℕ). digits_in k n) (sym (room some))
 
--- ---- a signed number, as the code takes it apart
-pub nonneg_text : (z : ℤ) → SFits w64 z → le_z (pos 0) (to_z w64 (of_z w64 z)) ≡ true → decimal (nat_abs (to_z w64 (of_z w64 z))) ≡ signed_text z
+  pub more_digits : 10 ≤ n → digits_in (most - 1) (n / 10) ++ ((48 + n % 10) ∷ []) ≡ digits_in most n
+  more_digits h = digits_more (most - 1) n h ∙ ap (λ (k : ℕ). digits_in k n) (sym (room some))
+
+-- ---- a signed number
+pub nonneg_text : (z : ℤ) → lt_z z (pos 0) ≡ false → decimal (nat_abs z) ≡ signed_text z
 unfolding signed_text
-nonneg_text (pos n) f t = ap (λ (y : ℤ). decimal (nat_abs y)) (back f)
-nonneg_text (negsuc a) f t = absurd (false_true (rw (back f) at t))
+nonneg_text (pos n) h = refl
+nonneg_text (negsuc a) h = absurd (false_true (sym h))
 
-pub negative_text : (z : ℤ) → SFits w64 z → le_z (pos 0) (to_z w64 (of_z w64 z)) ≡ false →
-    (45 ∷ []) ++ decimal (nat_abs (to_z w64 (of_z w64 (negsuc 0 -ℤ to_z w64 (of_z w64 z)))) + 1) ≡ signed_text z
+pub negative_text : (z : ℤ) → lt_z z (pos 0) ≡ true → (45 ∷ []) ++ decimal (nat_abs z) ≡ signed_text z
 unfolding signed_text
-negative_text (pos n) f t = absurd (false_true (sym (rw (back f) at t) ∙ le_le_Z (pos 0) (pos n) (pos_nonneg n)))
-negative_text (negsuc a) f t =
-    let e : negsuc 0 -ℤ negsuc a ≡ pos a = omega (whole, at (# (negsuc 0) ⊖ # (negsuc a))) in
-    let g : SFits w64 (pos a) = record { sfits = f.sfits } in
-    ap (λ (y : ℤ). (45 ∷ []) ++ decimal (nat_abs y + 1)) (ap (λ (y : ℤ). to_z w64 (of_z w64 (negsuc 0 -ℤ y))) (back f) ∙ ap (λ (y : ℤ). to_z w64 (of_z w64 y)) e ∙ back g)
+negative_text (pos n) h = absurd (clash_ℤ (lt_true (pos n) (pos 0) h) (pos_nonneg n))
+negative_text (negsuc a) h = ap (λ (k : ℕ). (45 ∷ []) ++ decimal k) (sym (add-one a))

@@ -39,10 +39,10 @@ use Rattle.planner.specs.Verdict.{
   rows_of,
   judgement_of,
 }
-use Rattle.planner.specs.declared.PatternRow.{PatternRow}
-use Rattle.planner.specs.declared.Judgement.{Judgement}
+use Rattle.planner.specs.Answers.{PatternRow}
+use Rattle.planner.specs.Answers.{Judgement}
 use Rattle.planfile.specs.Read.{read_refusal, read_answer}
-use Rattle.planfile.specs.declared.ReadAnswer.{ReadAnswer}
+use Rattle.planfile.specs.Answers.{ReadAnswer}
 use Rattle.plan.specs.Case.{near_L, plan_L}
 use Rattle.planfile.proofs.Examples.{file_L, read_L, refused_near}
 use Rattle.listing.specs.Text.{

@@ -8,8 +8,8 @@ use Rattle.plan.specs.Refusal.{answer}
 use Rattle.plan.specs.declared.Plan.{Plan}
 use Rattle.planner.specs.Verdict.{solvent, short, judgement_of}
 use Rattle.planner.specs.Rows.{row_in}
-use Rattle.planner.specs.declared.PatternRow.{PatternRow}
-use Rattle.planner.specs.declared.Judgement.{Judgement}
+use Rattle.planner.specs.Answers.{PatternRow}
+use Rattle.planner.specs.Answers.{Judgement}
 use Rattle.planfile.specs.Read.{read_answer}
 
 -- ---- numbers

@@ -1,171 +1,194 @@
-// The text of a listing, put into a lent buffer. Each function answers the place after what it put down.
+// The text of a listing, put into a lent buffer.
 #![tactic(auto)]
 
-ghost use Rattle.std.specs.Prelude.{◌≡◌, [], ◌∷◌, ◌+◌, ◌*◌, ◌%◌, ◌≤◌, pos, length};
+ghost use Rattle.std.specs.Prelude.{◌≡◌, [], ◌∷◌, ◌+◌, ◌*◌, ◌≤◌, pos, length, map};
 ghost use Rattle.std.specs.Int.Count.{ones};
 ghost use Rattle.io.specs.Counts.{IsPrefixLen};
-ghost use Rattle.little_endian.specs.Wrote.{Wrote};
-ghost use Rattle.listing.specs.Text.{digits_in, signed_text, word_text, field, fields, amounts_text, line_text, lines_text, lowest_short, last_text, refused_text, judgement_text, text_of};
-ghost use Rattle.listing.specs.Putting.{Listed};
+ghost use Rattle.refusal.specs.Number.{number_of};
+ghost use Rattle.planner.specs.Shown.{word_number, row_made, row_shown};
+ghost use Rattle.planfile.specs.Read.{read_answer};
+ghost use Rattle.listing.specs.Shown.{accepted_shown};
+ghost use Rattle.listing.specs.Text.{digits_in, signed_text, word_text, field, fields, amounts_text, line_text, lines_text, lowest_short, last_text, refused_text, plan_text, text_of};
+ghost use Rattle.listing.specs.Putting.{Free, Put, EachThere, Listed};
 ghost use Rattle.listing.specs.Demands.{Demands};
 
-use planner::{Judgement, PatternRow};
+use plan::{AcceptedPlan, Plan};
+use planner::{Judged, PatternRow, Word};
+use refusal::Refusal;
 
-// ---- bytes and numbers
-
-// One byte.
-fn put_byte(b: &mut [u8], at: usize, x: u8) -> usize
-    requires { at + 1 ≤ length b.old }
-    ensures { Wrote b.old b.new at (x ∷ []) result }
-{
-    b[at] = x;
-    at + 1
+// The text so far: the bytes of a lent buffer before a place.
+// kept, bytes, of bytes: one function for the two would take its turn as a closure over the text, and say in its contract what that puts down
+// kept, fields, of bytes: the same
+// kept, the fact Free: each method asks for the room that its own bytes take, which no type can know
+#[derive(Drop)]
+struct Text<'a> {
+    buffer: &'a mut [u8],
+    at: usize,
 }
 
-// The bytes of a text.
-fn put_bytes(b: &mut [u8], at: usize, text: &[u8]) -> usize
-    requires { at + length text.now ≤ length b.old }
-    ensures { Wrote b.old b.new at text.now result }
-{
-    let mut k = 0;
-    while k < text.len() {
-        b[at + k] = text[k];
-        k += 1;
+// kept, a conversion: std's `write!` answers a Result that no clause says is Ok, and a listing cannot fail; so numbers and words are put down by hand
+impl Text<'_> {
+    // ---- bytes and numbers
+
+    fn byte(&mut self, x: u8)
+        requires { Free self.old 1 }
+        ensures { Put self.old self.new (x ∷ []) 1 }
+    {
+        self.buffer[self.at] = x;
+        self.at += 1;
     }
-    at + k
-}
 
-// The lowest digit.
-fn digit(n: u64) -> u8
-    ensures { result ≡ 48 + n % 10 }
-{
-    48 + (n % 10) as u8
-}
-
-// A number of at most `most` digits.
-fn put_digits(b: &mut [u8], at: usize, n: u64, most: usize) -> usize
-    requires { at + most ≤ length b.old }
-    ensures wrote { Wrote b.old b.new at (digits_in most n) result }
-    ensures upper_bound { result ≤ at + most }
-{
-    if most == 0 {
-        return at;
+    fn bytes(&mut self, text: &[u8])
+        requires { Free self.old (length text.now) }
+        ensures { Put self.old self.new text.now (length text.now) }
+    {
+        for &x in text {
+            self.byte(x);
+        }
     }
-    if n < 10 {
-        return put_byte(b, at, digit(n));
+
+    // A number of at most `most` digits.
+    fn digits(&mut self, n: u64, most: usize)
+        requires { Free self.old most }
+        ensures { Put self.old self.new (digits_in most n) most }
+    {
+        if most == 0 {
+            return;
+        }
+        if 10 <= n {
+            self.digits(n / 10, most - 1);
+        }
+        // kept: a cast, as no From makes a u8 of a u64, and a TryFrom would ask what to do where there is none
+        self.byte(48 + (n % 10) as u8);
     }
-    let p = put_digits(b, at, n / 10, most - 1);
-    put_byte(b, p, digit(n))
-}
 
-// A whole number; -1 - z is taken below zero because -z may pass 64 bits.
-fn put_signed(b: &mut [u8], at: usize, z: i64) -> usize
-    requires { at + 21 ≤ length b.old }
-    ensures wrote { Wrote b.old b.new at (signed_text z) result }
-    ensures upper_bound { result ≤ at + 21 }
-{
-    if 0 <= z {
-        return put_digits(b, at, z as u64, 20);
+    // A whole number.
+    fn signed(&mut self, z: i64)
+        requires { Free self.old 21 }
+        ensures { Put self.old self.new (signed_text z) 21 }
+    {
+        if z < 0 {
+            self.byte(45);
+        }
+        self.digits(z.unsigned_abs(), 20);
     }
-    let p = put_byte(b, at, 45);
-    put_digits(b, p, (-1 - z) as u64 + 1, 20)
-}
 
-// ---- lines
-
-// A space, and a whole number of at most 21 bytes.
-fn put_field(b: &mut [u8], at: usize, z: i64) -> usize
-    requires { at + 22 ≤ length b.old }
-    ensures wrote { Wrote b.old b.new at (field z) result }
-    ensures upper_bound { result ≤ at + 22 }
-{
-    let p = put_byte(b, at, 32);
-    put_signed(b, p, z)
-}
-
-// The first n amounts.
-fn put_fields(b: &mut [u8], at: usize, amounts: [i64; 16], n: usize) -> usize
-    requires n_bound { n ≤ 16 }
-    requires n_in_bounds { at + 22 * n ≤ length b.old }
-    ensures wrote { Wrote b.old b.new at (fields n amounts) result }
-    ensures upper_bound { result ≤ at + 22 * n }
-{
-    let mut p = at;
-    let mut k = 0;
-    while k < n {
-        let z = amounts[k];
-        p = put_field(b, p, z);
-        k += 1;
+    // A space, and a whole number.
+    fn field(&mut self, z: i64)
+        requires { Free self.old 22 }
+        ensures { Put self.old self.new (field z) 22 }
+    {
+        self.byte(32);
+        self.signed(z);
     }
-    p
-}
 
-// A word by its number: 1 is solvent, 2 short, any other close.
-fn put_word(b: &mut [u8], at: usize, word: u8) -> usize
-    requires { at + 7 ≤ length b.old }
-    ensures wrote { Wrote b.old b.new at (word_text word) result }
-    ensures upper_bound { result ≤ at + 7 }
-{
-    if word == 1 {
-        return put_bytes(b, at, b"solvent");
+    fn fields(&mut self, amounts: &[i64])
+        requires { Free self.old (22 * length amounts.now) }
+        ensures { Put self.old self.new (fields (length amounts.now) amounts.now) (22 * length amounts.now) }
+    {
+        for &z in amounts {
+            self.field(z);
+        }
     }
-    if word == 2 {
-        return put_bytes(b, at, b"short");
+
+    // ---- lines
+
+    fn word(&mut self, word: Word)
+        requires { Free self.old 7 }
+        ensures { Put self.old self.new (word_text (word_number word)) 7 }
+    {
+        match word {
+            Word::Solvent => self.bytes(b"solvent"),
+            Word::Short => self.bytes(b"short"),
+            Word::Close => self.bytes(b"close"),
+        }
     }
-    put_bytes(b, at, b"close")
-}
 
-// Fund, B, K_1 to K_n and Q.
-fn put_amounts(b: &mut [u8], at: usize, row: PatternRow, n: usize) -> usize
-    requires n_bound { n ≤ 16 }
-    requires at_in_bounds { at + 418 ≤ length b.old }
-    ensures wrote { Wrote b.old b.new at (amounts_text n row) result }
-    ensures upper_bound { result ≤ at + 418 }
-{
-    let p = put_field(b, at, row.fund);
-    let q = put_field(b, p, row.bound);
-    let coefficients = row.coefficients;
-    let s = put_fields(b, q, coefficients, n);
-    put_field(b, s, row.constant)
-}
-
-// The line of pattern t.
-fn put_line(b: &mut [u8], at: usize, t: usize, row: PatternRow, n: usize) -> usize
-    requires n_bound { n ≤ 16 }
-    requires at_in_bounds { at + 447 ≤ length b.old }
-    ensures wrote { Wrote b.old b.new at (line_text n t row) result }
-    ensures upper_bound { result ≤ at + 447 }
-{
-    let p = put_digits(b, at, t as u64, 20);
-    let q = put_byte(b, p, 32);
-    let s = put_word(b, q, row.word);
-    let e = put_amounts(b, s, row, n);
-    put_byte(b, e, 10)
-}
-
-// The lines of patterns 1 to m.
-fn put_lines(b: &mut [u8], rows: [PatternRow; 64], m: usize, n: usize) -> usize
-    requires m_bound { m ≤ 64 }
-    requires n_bound { n ≤ 16 }
-    requires m_in_bounds { 447 * m ≤ length b.old }
-    ensures wrote { Wrote b.old b.new 0 (lines_text m n rows) result }
-    ensures upper_bound { result ≤ 447 * m }
-{
-    let mut p = 0;
-    let mut t = 0;
-    while t < m {
-        let row = rows[t];
-        t += 1;
-        p = put_line(b, p, t, row, n);
+    // Fund, B, K_1 to K_n and Q.
+    fn amounts(&mut self, row: &PatternRow, n: usize)
+        requires n_bound { n ≤ 16 }
+        requires free { Free self.old 418 }
+        ensures { Put self.old self.new (amounts_text n (row_made row.now)) 418 }
+    {
+        self.field(row.fund);
+        self.field(row.bound);
+        self.fields(&row.coefficients[..n]);
+        self.field(row.constant);
     }
-    p
+
+    // The line of pattern t.
+    fn line(&mut self, t: usize, row: &PatternRow, n: usize)
+        requires n_bound { n ≤ 16 }
+        requires free { Free self.old 447 }
+        ensures { Put self.old self.new (line_text n t (row_made row.now)) 447 }
+    {
+        // kept: a cast, as no From makes a u64 of a usize
+        self.digits(t as u64, 20);
+        self.byte(32);
+        self.word(row.word);
+        self.amounts(row, n);
+        self.byte(10);
+    }
+
+    // The lines of patterns 1 to m.
+    fn lines(&mut self, plan: &Plan, judged: &Judged)
+        requires n_bound { plan.now.instruments ≤ 16 }
+        requires m_bound { plan.now.patterns ≤ 64 }
+        requires each { EachThere plan.now.patterns judged.now.rows }
+        requires free { Free self.old (447 * plan.now.patterns) }
+        ensures { Put self.old self.new (lines_text plan.now.patterns plan.now.instruments (map row_shown judged.now.rows)) (447 * plan.now.patterns) }
+    {
+        for (t, row) in judged.rows[..plan.patterns].iter().enumerate() {
+            if let Some(row) = row {
+                self.line(t + 1, row, plan.instruments);
+            }
+        }
+    }
+
+    // The plan's word, how many patterns are short, and the lowest short number.
+    fn last(&mut self, judged: &Judged)
+        requires { Free self.old 52 }
+        ensures { Put self.old self.new (last_text (word_number judged.now.word) judged.now.short) 52 }
+    {
+        self.word(judged.word);
+        self.field(short_count(judged.short));
+        self.field(lowest_short(judged.short));
+        self.byte(10);
+    }
+
+    // A refusal's line.
+    fn refused(&mut self, refusal: Refusal)
+        requires { Free self.old 29 }
+        ensures { Put self.old self.new (refused_text (number_of refusal)) 29 }
+    {
+        self.bytes(b"refused ");
+        self.digits(u64::from(u8::from(refusal)), 20);
+        self.byte(10);
+    }
+
+    // ---- the whole text
+
+    // That of a plan, in a frame of its own.
+    #[inline(never)]
+    fn plan(&mut self, plan: AcceptedPlan<'_>)
+        requires { Free self.old 28660 }
+        ensures { Put self.old self.new (plan_text plan.entry.plan.now) 28660 }
+    {
+        match &planner::judge_accepted(plan) {
+            Ok(judged) => {
+                self.lines(plan.plan, judged);
+                self.last(judged);
+            }
+            Err(refusal) => self.refused(*refusal),
+        }
+    }
 }
 
 // How many patterns are short.
 fn short_count(bits: u64) -> i64
     ensures { result ≡ pos (ones bits) }
 {
-    u64::count_ones(bits) as i64
+    i64::from(bits.count_ones())
 }
 
 // The lowest short number.
@@ -175,65 +198,28 @@ fn lowest_short(bits: u64) -> i64
     if bits == 0 {
         return 0;
     }
-    (u64::trailing_zeros(bits) + 1) as i64
+    i64::from(bits.trailing_zeros() + 1)
 }
 
-// The last line.
-fn put_last(b: &mut [u8], at: usize, word: u8, bits: u64) -> usize
-    requires { at + 52 ≤ length b.old }
-    ensures wrote { Wrote b.old b.new at (last_text word bits) result }
-    ensures upper_bound { result ≤ at + 52 }
+// The plan of a file, which is put into a lent one, where no check refuses it.
+fn accepted_in<'a>(file: &[u8], plan: &'a mut Plan) -> Result<AcceptedPlan<'a>, Refusal>
+    ensures { accepted_shown result ≡ read_answer file.now }
 {
-    let p = put_word(b, at, word);
-    let q = put_field(b, p, short_count(bits));
-    let s = put_field(b, q, lowest_short(bits));
-    put_byte(b, s, 10)
+    reader::fill(file, plan)?;
+    plan.accepted()
 }
 
-// A refusal's line.
-fn put_refused(b: &mut [u8], number: u8) -> usize
-    requires { 29 ≤ length b.old }
-    ensures wrote { Wrote b.old b.new 0 (refused_text number) result }
-    ensures upper_bound { result ≤ 29 }
-{
-    let p = put_bytes(b, 0, b"refused ");
-    let q = put_digits(b, p, number as u64, 20);
-    put_byte(b, q, 10)
-}
-
-// ---- the whole text
-
-// That of a judgement over m patterns and n instruments.
-fn put_judgement(b: &mut [u8], m: usize, n: usize, s: Judgement) -> usize
-    requires m_bound { m ≤ 64 }
-    requires n_bound { n ≤ 16 }
-    requires in_bounds { 28660 ≤ length b.old }
-    ensures wrote { Wrote b.old b.new 0 (judgement_text m n s) result }
-    ensures upper_bound { result ≤ 28660 }
-{
-    let verdict = s.verdict;
-    let no = verdict.refusal;
-    if no != 0 {
-        return put_refused(b, no);
-    }
-    let rows = s.rows;
-    let p = put_lines(b, rows, m, n);
-    put_last(b, p, verdict.word, verdict.short)
-}
-
-// That of a file, in the first bytes of `out`: how many they are.
+// The listing of a file, in the first bytes of `out`: how many they are.
 pub fn list(file: &[u8], out: &mut [u8; 32768]) -> usize
     ensures is { Listed (text_of file.now) out.old out.new result }
     ensures counts { IsPrefixLen result out.new }
     ensures demands { Demands file.now }
 {
-    let found = reader::read(file, true);
-    let no = found.refusal;
-    if no != 0 {
-        return put_refused(out, no);
+    let mut text = Text { buffer: out, at: 0 };
+    let mut plan = Plan::empty();
+    match accepted_in(file, &mut plan) {
+        Ok(plan) => text.plan(plan),
+        Err(refusal) => text.refused(refusal),
     }
-    let plan = found.plan;
-    let m = plan.patterns;
-    let n = plan.instruments;
-    put_judgement(out, m, n, planner::judge_accepted(plan))
+    text.at
 }

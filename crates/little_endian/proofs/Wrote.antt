@@ -1,23 +1,20 @@
 -- The laws of what is put down in a buffer: bytes after bytes, in a line or in a loop, and the room that they take.
 use mathlib.Core.Path.{◌≡◌, refl, sym, ap, ◌∙◌}
-use mathlib.Core.List.{List, [], ◌∷◌, ◌++◌}
+use mathlib.Core.List.{List, [], ◌++◌}
 use Prim.Native.Nat.{ℕ, ◌+◌, ◌*◌, ◌≤◌, ◌<◌}
 use native.Mathlib.Nat.{mul-suc, mul-add, mul-le-mul_left}
 use native.Mathlib.Omega.{arith}
-use lib.ListN.{length, set, length-append}
+use lib.ListN.{length, length-append}
 use lib.Seq.{length-sets}
 use Rattle.little_endian.specs.LittleEndian.{bytes_of, stored}
 use Rattle.little_endian.specs.Runs.{run}
-use Rattle.little_endian.specs.Wrote.{Room, Wrote}
+use Rattle.little_endian.specs.Wrote.{Wrote}
 use Rattle.little_endian.proofs.LittleEndian.{sets_append, length_bytes_of}
 use Rattle.little_endian.proofs.Runs.{run_none, run_more}
 
 -- ---- what is put down
 pub wrote_none : (l : List ℕ) (at : ℕ) → Wrote l l at [] at
 wrote_none l at = record { is = refl; next = omega arith }
-
-pub wrote_byte : (x : ℕ) {l : List ℕ} {at r : ℕ} → r ≡ at + 1 → Wrote l (set l at x) at (x ∷ []) r
-wrote_byte x e = record { is = refl; next = e }
 
 pub wrote_number : (w x : ℕ) {l l' : List ℕ} {at r : ℕ} → l' ≡ stored w l at x → r ≡ at + w → Wrote l l' at (bytes_of w x) r
 unfolding stored
@@ -37,13 +34,6 @@ wrote_as e w = rw (← e) w
 -- the buffer keeps its length
 pub wrote_length : {l l' : List ℕ} {at r : ℕ} {u : List ℕ} → Wrote l l' at u r → length l' ≡ length l
 wrote_length w = ap length w.is ∙ simp length-sets
-
--- there is room for bytes of which the first part goes down, and then for the rest
-pub room_first : {l : List ℕ} {at : ℕ} {u : List ℕ} (v : List ℕ) → Room l at (u ++ v) → Room l at u
-room_first {u = u} v h = record { fits = omega (arith, length-append u v) }
-
-pub room_rest : {l l' : List ℕ} {at r : ℕ} {u v : List ℕ} → Wrote l l' at u r → Room l at (u ++ v) → Room l' r v
-room_rest {u = u} {v = v} w h = record { fits = omega (arith, w.next, wrote_length w, length-append u v) }
 
 -- ---- a loop that puts down n parts of at most w bytes each, from place `at` of a buffer b₀ on: after k of them the buffer is b
 pub record Putting (w n : ℕ) (parts : ℕ → List ℕ) (b₀ : List ℕ) (at : ℕ) (b : List ℕ) (place k : ℕ) : Type 0 where

@@ -1,135 +1,181 @@
-// Numbers of 2, 4 and 8 bytes in a slice, the lowest byte first: unsigned, and signed in two's complement.
+// Numbers of 1, 2, 4 and 8 bytes in a slice, the lowest byte first: unsigned, and signed in two's complement.
 #![tactic(auto)]
 
-ghost use Rattle.std.specs.Prelude.{◌≡◌, ◌+◌, ◌≤◌, length};
+ghost use Rattle.std.specs.Prelude.{◌≡◌, refl, ℕ, ◌+◌, ◌^◌, ◌≤◌, ◌<◌, length};
 ghost use Rattle.little_endian.specs.LittleEndian.{le_at, stored};
 ghost use Rattle.little_endian.specs.TwosComplement.{signed_of, unsigned_of};
+ghost use Rattle.little_endian.specs.Numbers.{few_1, few_2, few_4, few_8, signed_again};
 
-// The number that two bytes spell, from place `at` of s on.
-pub fn u16_at(s: &[u8], at: usize) -> u16
-    requires { at + 2 ≤ length s.now }
-    ensures { result ≡ le_at 2 at s.now }
-{
-    let low = s[at];
-    let high = s[at + 1];
-    low as u16 + 256 * (high as u16)
+// A number that stands in a slice in so many bytes.
+// kept, put, of put: std's methods of the three widths have no trait that one function could go over, and no impl may be a macro's (a rule
+// of the project)
+// kept, at, of at: so it is with the two signed types
+// kept, parameters at: a slice from the place on in their place is no plainer: each caller would cut it
+// kept, an array or a slice with at beside it: the same
+pub trait Number: Copy {
+    ghost SIZE: { ℕ };
+
+    // how many bytes it has
+    const SIZE: usize;
+
+    // the number that these bits are, and the bits of a number
+    ghost number_of: { ℕ → Self };
+
+    ghost bits_of: { Self → ℕ };
+
+    // The number whose bytes stand from place `at` of s on.
+    fn at(s: &[u8], at: usize) -> Self
+        requires { at + SIZE ≤ length s.now }
+        ensures { result ≡ number_of (le_at SIZE at s.now) };
+
+    // Stores the bytes of the number from place `at` of b on.
+    fn put(self, b: &mut [u8], at: usize)
+        requires { at + SIZE ≤ length b.old }
+        ensures { b.new ≡ stored SIZE b.old at (bits_of self) };
+
+    // It has at most eight bytes, and what is read is written again.
+    ghost few: { SIZE ≤ 8 };
+
+    ghost again: { (x : ℕ) → x < 256 ^ SIZE → bits_of (number_of x) ≡ x };
 }
 
-// The number that four bytes spell, from place `at` of s on.
-pub fn u32_at(s: &[u8], at: usize) -> u32
-    requires { at + 4 ≤ length s.now }
-    ensures { result ≡ le_at 4 at s.now }
-{
-    u16_at(s, at) as u32 + 0x1_0000 * (u16_at(s, at + 2) as u32)
-}
+impl Number for u8 {
+    ghost SIZE = { 1 };
 
-// The number that eight bytes spell, from place `at` of s on.
-pub fn u64_at(s: &[u8], at: usize) -> u64
-    requires { at + 8 ≤ length s.now }
-    ensures { result ≡ le_at 8 at s.now }
-{
-    u32_at(s, at) as u64 + 0x1_0000_0000 * (u32_at(s, at + 4) as u64)
-}
+    const SIZE: usize = 1;
 
-// The signed number of 32 bits: from the half on, the bits are those of a negative number.
-fn signed_32(x: u32) -> i32
-    ensures { result ≡ signed_of 4 x }
-{
-    if x < 0x8000_0000 {
-        x as i32
-    } else {
-        -1 - ((0xffff_ffff - x) as i32)
+    ghost number_of = { λ x. x };
+
+    ghost bits_of = { λ x. x };
+
+    fn at(s: &[u8], at: usize) -> u8 {
+        s[at]
     }
-}
 
-// The signed number of 64 bits: from the half on, the bits are those of a negative number.
-fn signed_64(x: u64) -> i64
-    ensures { result ≡ signed_of 8 x }
-{
-    if x < 0x8000_0000_0000_0000 {
-        x as i64
-    } else {
-        -1 - ((0xffff_ffff_ffff_ffff - x) as i64)
+    fn put(self, b: &mut [u8], at: usize) {
+        b[at] = self;
     }
+
+    ghost few = { few_1 };
+
+    ghost again = { λ x h. refl };
 }
 
-// The signed number that four bytes spell, from place `at` of s on.
-pub fn i32_at(s: &[u8], at: usize) -> i32
-    requires { at + 4 ≤ length s.now }
-    ensures { result ≡ signed_of 4 (le_at 4 at s.now) }
-{
-    signed_32(u32_at(s, at))
-}
+impl Number for u16 {
+    ghost SIZE = { 2 };
 
-// The signed number that eight bytes spell, from place `at` of s on.
-pub fn i64_at(s: &[u8], at: usize) -> i64
-    requires { at + 8 ≤ length s.now }
-    ensures { result ≡ signed_of 8 (le_at 8 at s.now) }
-{
-    signed_64(u64_at(s, at))
-}
+    const SIZE: usize = 2;
 
-// Stores the two bytes of x from place `at` of b on.
-pub fn put_u16(b: &mut [u8], at: usize, x: u16)
-    requires { at + 2 ≤ length b.old }
-    ensures { b.new ≡ stored 2 b.old at x }
-{
-    b[at] = (x % 256) as u8;
-    b[at + 1] = (x / 256) as u8;
-}
+    ghost number_of = { λ x. x };
 
-// Stores the four bytes of x from place `at` of b on.
-pub fn put_u32(b: &mut [u8], at: usize, x: u32)
-    requires { at + 4 ≤ length b.old }
-    ensures { b.new ≡ stored 4 b.old at x }
-{
-    put_u16(b, at, (x % 0x1_0000) as u16);
-    put_u16(b, at + 2, (x / 0x1_0000) as u16);
-}
+    ghost bits_of = { λ x. x };
 
-// Stores the eight bytes of x from place `at` of b on.
-pub fn put_u64(b: &mut [u8], at: usize, x: u64)
-    requires { at + 8 ≤ length b.old }
-    ensures { b.new ≡ stored 8 b.old at x }
-{
-    put_u32(b, at, (x % 0x1_0000_0000) as u32);
-    put_u32(b, at + 4, (x / 0x1_0000_0000) as u32);
-}
-
-// The 32 bits of a signed number.
-fn unsigned_32(z: i32) -> u32
-    ensures { result ≡ unsigned_of 4 z }
-{
-    if 0 <= z {
-        z as u32
-    } else {
-        0xffff_ffff - ((-1 - z) as u32)
+    fn at(s: &[u8], at: usize) -> u16 {
+        u16::from_le_bytes([s[at], s[at + 1]])
     }
-}
 
-// The 64 bits of a signed number.
-fn unsigned_64(z: i64) -> u64
-    ensures { result ≡ unsigned_of 8 z }
-{
-    if 0 <= z {
-        z as u64
-    } else {
-        0xffff_ffff_ffff_ffff - ((-1 - z) as u64)
+    fn put(self, b: &mut [u8], at: usize) {
+        b[at..at + 2].copy_from_slice(&self.to_le_bytes());
     }
+
+    ghost few = { few_2 };
+
+    ghost again = { λ x h. refl };
 }
 
-// Stores the four bytes of the signed x from place `at` of b on.
-pub fn put_i32(b: &mut [u8], at: usize, x: i32)
-    requires { at + 4 ≤ length b.old }
-    ensures { b.new ≡ stored 4 b.old at (unsigned_of 4 x) }
-{
-    put_u32(b, at, unsigned_32(x));
+impl Number for u32 {
+    ghost SIZE = { 4 };
+
+    const SIZE: usize = 4;
+
+    ghost number_of = { λ x. x };
+
+    ghost bits_of = { λ x. x };
+
+    fn at(s: &[u8], at: usize) -> u32 {
+        u32::from_le_bytes([s[at], s[at + 1], s[at + 2], s[at + 3]])
+    }
+
+    fn put(self, b: &mut [u8], at: usize) {
+        b[at..at + 4].copy_from_slice(&self.to_le_bytes());
+    }
+
+    ghost few = { few_4 };
+
+    ghost again = { λ x h. refl };
 }
 
-// Stores the eight bytes of the signed x from place `at` of b on.
-pub fn put_i64(b: &mut [u8], at: usize, x: i64)
-    requires { at + 8 ≤ length b.old }
-    ensures { b.new ≡ stored 8 b.old at (unsigned_of 8 x) }
-{
-    put_u64(b, at, unsigned_64(x));
+impl Number for u64 {
+    ghost SIZE = { 8 };
+
+    const SIZE: usize = 8;
+
+    ghost number_of = { λ x. x };
+
+    ghost bits_of = { λ x. x };
+
+    fn at(s: &[u8], at: usize) -> u64 {
+        u64::from_le_bytes([
+            s[at],
+            s[at + 1],
+            s[at + 2],
+            s[at + 3],
+            s[at + 4],
+            s[at + 5],
+            s[at + 6],
+            s[at + 7],
+        ])
+    }
+
+    fn put(self, b: &mut [u8], at: usize) {
+        b[at..at + 8].copy_from_slice(&self.to_le_bytes());
+    }
+
+    ghost few = { few_8 };
+
+    ghost again = { λ x h. refl };
+}
+
+impl Number for i32 {
+    ghost SIZE = { 4 };
+
+    const SIZE: usize = 4;
+
+    ghost number_of = { signed_of 4 };
+
+    ghost bits_of = { unsigned_of 4 };
+
+    fn at(s: &[u8], at: usize) -> i32 {
+        u32::at(s, at).cast_signed()
+    }
+
+    fn put(self, b: &mut [u8], at: usize) {
+        u32::put(self.cast_unsigned(), b, at);
+    }
+
+    ghost few = { few_4 };
+
+    ghost again = { signed_again 4 };
+}
+
+impl Number for i64 {
+    ghost SIZE = { 8 };
+
+    const SIZE: usize = 8;
+
+    ghost number_of = { signed_of 8 };
+
+    ghost bits_of = { unsigned_of 8 };
+
+    fn at(s: &[u8], at: usize) -> i64 {
+        u64::at(s, at).cast_signed()
+    }
+
+    fn put(self, b: &mut [u8], at: usize) {
+        u64::put(self.cast_unsigned(), b, at);
+    }
+
+    ghost few = { few_8 };
+
+    ghost again = { signed_again 8 };
 }

@@ -1,20 +1,37 @@
 -- The loop of the coefficients: the funds of n flows, each with its cost, one after the other, unless check 11 refuses one.
 use mathlib.Core.Path.{◌≡◌, refl, sym, ap, ap₂, ◌∙◌, fun_ext}
 use mathlib.Core.Bool.{true, false}
-use mathlib.Core.List.{List}
+use mathlib.Core.List.{List, []}
 use Prim.Native.Nat.{ℕ, ◌+◌, ◌≤◌, ◌<◌}
 use native.Mathlib.Omega.{arith}
-use lib.ListN.{set, replicate}
+use lib.ListN.{length, get_or, set, take, replicate}
+use Rattle.std.proofs.lemmas.List.{length-take, get_or-take, get_or-map}
 use lib.IntN.{ℤ, pos, ◌+ℤ◌}
 use Rattle.whole.specs.Test.{all}
 use Rattle.whole.proofs.Filling.{Filling, fill_start, fill_turn, fill_as}
 use Rattle.whole.proofs.Test.{picked_yes, picked_no, picked_is, all_none, all_more, all_end, all_fails, all_cong}
 use Rattle.reckoning.specs.Reckoning.{fund}
-use Rattle.reckoning.specs.Arrays.{fund_fits, fund_reckoned}
-use Rattle.reckoning.specs.declared.Reckoned.{Reckoned}
+use Rattle.reckoning.specs.Arrays.{amounts_of, fund_fits, fund_reckoned}
+use Rattle.reckoning.specs.Answers.{Reckoned}
+use Rattle.reckoning.specs.declared.Flow.{Flow}
+use Rattle.patterns.specs.Prepared.{row_of}
 use Rattle.patterns.specs.Pattern.{Shared, coefficient_at, coefficients_fit, coefficients_at, coefficients_reckoned}
-use Rattle.patterns.specs.declared.Coefficients.{Coefficients}
-use Rattle.patterns.proofs.Reckoned.{reckoned_refused, reckoned_fits, reckoned_is}
+use Rattle.patterns.specs.Answers.{Coefficients}
+use Rattle.patterns.proofs.Reckoned.{reckoned_refused, reckoned_fits, reckoned_is, reckoned_number}
+
+-- the flow f at place j of the first n: its row, and its fund with an amount left, as the row's
+module _ (flows : List Flow) (n j : ℕ) (l : j < length (take n flows)) where
+  pub row_few : j < n
+  row_few = omega (arith, l, length-take n flows)
+
+  row_is : (f : Flow) → f ≡ get_or (take n flows) j f → f.amounts ≡ row_of flows j
+  row_is f is =
+      ap (λ (f : Flow). f.amounts) (is ∙ get_or-take n flows j f row_few)
+      ∙ sym (get_or-map (λ (f : Flow). f.amounts) flows j f [] (omega (arith, l, length-take n flows)))
+
+  pub row_reckoned : (r : ℕ → ℕ) (i : ℕ → ℤ) (N : ℕ) (f : Flow) → f ≡ get_or (take n flows) j f → {z cost : ℤ} → z ≡ cost
+      → {s : Reckoned} → s ≡ fund_reckoned r i (amounts_of f.amounts) N z → s ≡ fund_reckoned r i (amounts_of (row_of flows j)) N cost
+  row_reckoned r i N f is same e = e ∙ ap₂ (λ (f : List ℤ) (z : ℤ). fund_reckoned r i (amounts_of f) N z) (row_is f is) same
 
 -- k has the funds of the flows f 0 to f (j - 1), each with the cost at its place, and check 11 takes them
 pub record Funded (r : ℕ → ℕ) (i : ℕ → ℤ) (f : ℕ → ℕ → ℤ) (cost : ℕ → ℤ) (N n : ℕ) (k : List ℤ) (j : ℕ) : Type 0 where
@@ -43,9 +60,9 @@ module _ (S : Shared) (i : ℕ → ℤ) {f : ℕ → ℕ → ℤ} {cost : ℕ �
   all_fit = all_cong S.instruments _ _ (λ j h. ap₂ (λ (f : ℕ → ℤ) (z : ℤ). fund_fits S.r i f S.years z) (flow_same j h) (sym (same_cost j h)))
 
   pub funds_refuse : {j : ℕ} → j < S.instruments → {s : Reckoned} → s ≡ fund_reckoned S.r i (f j) S.years (cost j) → (s.refusal ≡ 0 → ⊥)
-      → record { refusal = 11; values = replicate 16 (pos 0) } ≡ coefficients_reckoned S i
+      → record { refusal = s.refusal; values = replicate 16 (pos 0) } ≡ coefficients_reckoned S i
   unfolding coefficients_reckoned
-  funds_refuse {j} l e h = rw (sym all_fit ∙ all_fails S.instruments (λ j. fund_fits S.r i (f j) S.years (cost j)) j l (reckoned_refused S.r i (f j) S.years (cost j) e h))
+  funds_refuse {j} l e h = rw (reckoned_number S.r i (f j) S.years (cost j) e h, sym all_fit ∙ all_fails S.instruments (λ j. fund_fits S.r i (f j) S.years (cost j)) j l (reckoned_refused S.r i (f j) S.years (cost j) e h))
 
   pub funds_end : {k : List ℤ} {j : ℕ} → S.instruments ≤ j → Funded S.r i f cost S.years S.instruments k j → record { refusal = 0; values = k } ≡ coefficients_reckoned S i
   unfolding coefficients_reckoned coefficients_at coefficient_at
@@ -59,6 +76,10 @@ module _ (S : Shared) (i : ℕ → ℤ) {c : Coefficients} (e : c ≡ coefficien
   pub coefficients_refused : (c.refusal ≡ 0 → ⊥) → coefficients_fit S i ≡ false
   unfolding coefficients_reckoned
   coefficients_refused = picked_no (λ (c : Coefficients). c.refusal) _ _ refl (λ z. omega arith) (coefficients_fit S i) c e
+
+  pub coefficients_number : (c.refusal ≡ 0 → ⊥) → c.refusal ≡ 11
+  unfolding coefficients_reckoned
+  coefficients_number h = ap (λ (c : Coefficients). c.refusal) (rw (coefficients_refused h) at e)
 
   pub coefficients_fit_law : c.refusal ≡ 0 → coefficients_fit S i ≡ true
   unfolding coefficients_reckoned

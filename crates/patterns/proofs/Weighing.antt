@@ -1,27 +1,30 @@
 -- The loop of a weighted sum: n amounts x within the limit, each times its part p, where the parts come to at most 1,000,000.
 -- Every sum on the way then fits a machine's word. What is left of the allocation at the horizon is such a sum.
 use mathlib.Core.Path.{◌≡◌, sym, ap, ap₂, ◌∙◌}
-use mathlib.Core.Bool.{Bool, true, false}
-use mathlib.Core.List.{List, []}
+use mathlib.Core.List.{List}
 use Prim.Native.Nat.{ℕ, suc, ◌+◌, ◌-◌, ◌*◌, ◌≤◌, ◌<◌}
 use native.Mathlib.Nat.{le_trans}
 use native.Mathlib.Omega.{arith}
-use lib.ListN.{get_or}
+use lib.ListN.{length, get_or, take}
+use Rattle.std.proofs.lemmas.List.{length-take-le, get_or-take}
 use lib.IntN.{ℤ, pos, ◌+ℤ◌, ◌*ℤ◌, zero-*ℤ}
 use mir.Syntax.{w64}
 use mir.Val.{SFits}
 use Rattle.whole.specs.Range.{million, limit, Within}
 use Rattle.whole.specs.Floor.{floor}
-use Rattle.whole.specs.Sum.{sum}
-use Rattle.whole.specs.Entry.{entry}
-use Rattle.whole.specs.Test.{pick}
+use Rattle.whole.specs.Sum.{sum, sum_ℕ}
+use Rattle.whole.specs.Table.{table}
 use Rattle.whole.proofs.Range.{within_pos, within_mul, within_fits}
-use Rattle.whole.proofs.Entry.{entry_at, entry_empty}
-use Rattle.whole.proofs.Sum.{Σℤ_from, sum_none, sum_zeros, sum_more, sum_within_parts, sum_ℕ_one, sum_ℕ_more}
+use Rattle.whole.proofs.Entry.{entry_at, cut_past, table_cut}
+use Rattle.whole.proofs.Table.{table_at}
+use Rattle.whole.proofs.Sum.{Σℤ_from, sum_none, sum_zeros, sum_more, sum_cong, sum_within_parts, sum_ℕ_one, sum_ℕ_more, sum_ℕ_past, sum_ℕ_cong}
 use Rattle.reckoning.specs.Reckoning.{left}
-use Rattle.patterns.specs.Pattern.{exact_left_of, left_of}
+use Rattle.plan.specs.Held.{amounts_in}
+use Rattle.plan.proofs.Held.{held_at}
+use Rattle.patterns.specs.Pattern.{Shared, exact_left_of, left_of}
+use Rattle.patterns.specs.Prepared.{Parts}
 use Rattle.patterns.specs.Arrays.{shared_in, left_in, Weighable}
-use Rattle.patterns.specs.declared.Common.{Common}
+use Rattle.patterns.specs.declared.common.Common.{Common}
 
 -- what is left of costs that are 0, of any allocation
 pub no_left : (n : ℕ) {cost : ℕ → ℤ} (p : ℕ → ℕ) → ((j : ℕ) → cost j ≡ pos 0) → left n cost p ≡ pos 0
@@ -50,29 +53,58 @@ module _ {n : ℕ} {x : List ℤ} {p : List ℕ} (w : Weighable n x p) where
   pub weighted_within : {z : ℤ} → z ≡ weighed_by p n x → Within (limit * million) z
   weighted_within e = rw e (sum_within n (omega arith))
 
-  -- a turn adds the amount at j times q, its part
-  module _ {j : ℕ} (l : j < n) {q : ℤ} (part : q ≡ pos (get_or p j 0)) where
-    pub product_fits : SFits w64 (get_or x j (pos 0) *ℤ q)
-    product_fits = rw part (within_fits {b = limit * million} (omega arith) (within_mul (w.amount j l) (within_pos (le_trans (sum_ℕ_one n (λ j. get_or p j 0) j l) w.parts))))
+  -- a turn adds v times q, the amount at j and its part
+  module _ {j : ℕ} (l : j < n) {v q : ℤ} (amount : v ≡ get_or x j (pos 0)) (part : q ≡ pos (get_or p j 0)) where
+    pub product_fits : SFits w64 (v *ℤ q)
+    product_fits = rw (amount, part) (within_fits {b = limit * million} (omega arith) (within_mul (w.amount j l) (within_pos (le_trans (sum_ℕ_one n (λ j. get_or p j 0) j l) w.parts))))
 
     module _ {s : ℤ} (a : Weighing n x p s j) where
-      pub weigh_turn : Weighing n x p (s +ℤ get_or x j (pos 0) *ℤ q) (j + 1)
-      weigh_turn = record { upto = omega arith; is = sum_more (λ j. get_or x j (pos 0) *ℤ pos (get_or p j 0)) j a.is (ap (λ (q : ℤ). get_or x j (pos 0) *ℤ q) part) }
+      pub weigh_turn : Weighing n x p (s +ℤ v *ℤ q) (j + 1)
+      weigh_turn = record { upto = omega arith; is = sum_more (λ j. get_or x j (pos 0) *ℤ pos (get_or p j 0)) j a.is (ap₂ ◌*ℤ◌ amount part) }
 
-      pub sum_fits : SFits w64 (s +ℤ get_or x j (pos 0) *ℤ q)
+      pub sum_fits : SFits w64 (s +ℤ v *ℤ q)
       sum_fits = rw weigh_turn.is (within_fits (omega arith) (sum_within (j + 1) (omega arith)))
 
--- ---- the cost of instrument 1 + j, where it is held
-abbrev pub cost_in : (costed : Bool) (cost : List ℤ) (j : ℕ) → ℤ
-cost_in costed cost j = pick costed (get_or cost j (pos 0)) (pos 0)
+-- the first n amounts alone
+module _ {n : ℕ} {x : List ℤ} {p : List ℕ} (w : Weighable n x p) (long : n ≤ length x) where
+  pub taken : Weighable (length (take n x)) (take n x) p
+  taken = rw (length-take-le n x long) (record { few = w.few; amount = λ j h. rw (get_or-take n x j (pos 0) h) (w.amount j h); parts = w.parts })
 
--- what is left of the allocation: the weighted sum of the costs, in whole amounts; nothing where no cost is held
-pub left_is : (c : Common) → c.costed ≡ true → floor (weighed_by c.allocation c.instruments c.cost) million ≡ left_in c
-unfolding left_of exact_left_of left
-left_is c e = rw e (sym (ap (λ (z : ℤ). floor z million) (Σℤ_from 1 c.instruments c.instruments
-    (λ j. entry (pos 0) c.instruments (λ j. get_or c.cost j (pos 0)) j *ℤ pos (entry 0 c.instruments (λ j. get_or c.allocation j 0) j)) _ (omega arith) (λ j h.
-    ap₂ (λ (x : ℤ) (p : ℕ). x *ℤ pos p) (entry_at (pos 0) c.instruments (λ j. get_or c.cost j (pos 0)) j h) (entry_at 0 c.instruments (λ j. get_or c.allocation j 0) j h)))))
+  pub weighed_taken : weighed_by p (length (take n x)) (take n x) ≡ weighed_by p n x
+  weighed_taken = rw (length-take-le n x long) (sum_cong n _ _ (λ j h. ap (λ (x : ℤ). x *ℤ pos (get_or p j 0)) (get_or-take n x j (pos 0) h)))
 
-pub left_none : (c : Common) → c.costed ≡ false → left_in c ≡ pos 0
-unfolding left_of exact_left_of floor
-left_none c e = rw (no_left c.instruments {cost = (shared_in c []).cost} (shared_in c []).p (rw e (entry_empty (pos 0) (λ j. get_or c.cost j (pos 0)))))
+-- sixteen parts of at most 1,000,000 together, and n of them
+pub parts_first : (p : List ℕ) (n : ℕ) → n ≤ 16 → Parts p → sum_ℕ n (λ j. get_or p j 0) ≤ million
+parts_first p n few parts = le_trans (sum_ℕ_more n 16 (λ j. get_or p j 0) few) parts
+
+-- n parts of at most as many, and zeros past them
+pub parts_table : (n : ℕ) (f : ℕ → ℕ) → n ≤ 16 → sum_ℕ n f ≤ million → Parts (table 16 n f 0)
+parts_table n f few parts =
+    let all : 16 ≡ n + (16 - n) = omega arith in
+    let part : ℕ → ℕ = λ j. get_or (table 16 n f 0) j 0 in
+    let past : (j : ℕ) → n ≤ j → part j ≡ 0 = λ j h. table_cut 0 n f 16 few j ∙ cut_past 0 n f j h in
+    rw (ap (λ (m : ℕ). sum_ℕ m part) all ∙ sum_ℕ_past n (16 - n) part past ∙ sum_ℕ_cong n part f (λ j h. table_at 16 n f 0 0 j h few)) parts
+
+-- ---- what is left of the allocation: the weighted sum of the costs, in whole amounts; nothing where no cost is held
+module _ (c : Common) (shares : List ℕ) where
+  abbrev S : Shared
+  S = shared_in c shares
+
+  pub part_at : (j : ℕ) → j < c.instruments → S.p (1 + j) ≡ get_or shares j 0
+  part_at = entry_at 0 c.instruments (λ j. get_or shares j 0)
+
+  pub cost_at : (j : ℕ) → j < c.instruments → S.cost (1 + j) ≡ get_or (amounts_in c.cost) j (pos 0)
+  cost_at = held_at c.cost c.instruments
+
+  module _ (costs : List ℤ) (same : (j : ℕ) → j < c.instruments → get_or costs j (pos 0) ≡ get_or (amounts_in c.cost) j (pos 0)) where
+    pub cost_weighable : Parts shares → Weighable c.instruments costs shares
+    cost_weighable parts = record {
+      few = c.prepared.few;
+      amount = λ j h. rw (same j h) (c.prepared.costs j h);
+      parts = parts_first shares c.instruments c.prepared.few parts;
+    }
+
+    pub left_is : floor (weighed_by shares c.instruments costs) million ≡ left_in c shares
+    unfolding left_of exact_left_of left
+    left_is = sym (ap (λ (z : ℤ). floor z million) (Σℤ_from 1 c.instruments c.instruments (λ j. S.cost j *ℤ pos (S.p j)) _ (omega arith)
+        (λ j h. ap₂ (λ (x : ℤ) (p : ℕ). x *ℤ pos p) (cost_at j h ∙ sym (same j h)) (part_at j h))))

@@ -1,15 +1,17 @@
 -- What the code prepares of a plan for the core: arrays that hold the plan's numbers P, with zeros past N, n and q; and what such
 -- arrays say by the papers' index.
-use Rattle.std.specs.Prelude.{◌≡◌, true, List, [], ℕ, ◌+◌, ◌-◌, ◌≤◌, ◌<◌, get_or, replicate, ℤ, pos}
+use Rattle.std.specs.Prelude.{◌≡◌, List, ℕ, ◌+◌, ◌-◌, ◌≤◌, ◌<◌, get_or, replicate, ℤ, pos, ◌-ℤ◌, is_some}
 use Rattle.whole.specs.Range.{million, limit, Within}
 use Rattle.whole.specs.Sum.{sum_ℕ}
 use Rattle.whole.specs.Table.{table}
 use Rattle.whole.specs.Test.{pick}
 use Rattle.whole.specs.Entry.{entry}
-use Rattle.reckoning.specs.Arrays.{shares_of, amounts_of, Years, Terms, Amounts, weights_of}
+use Rattle.reckoning.specs.Arrays.{shares_of, amounts_of}
+use Rattle.plan.specs.Held.{amounts_in}
 use Rattle.plan.specs.Numbers.{Numbers, numbers}
 use Rattle.plan.specs.declared.Plan.{Plan}
-use Rattle.patterns.specs.declared.Common.{Common}
+use Rattle.patterns.specs.declared.common.Common.{Common}
+use Rattle.patterns.specs.Prepared.{rows_of, row_of}
 use Rattle.patterns.specs.Pattern.{Shared, shared_of, flow_of, left_of}
 
 -- ---- the arrays of a plan
@@ -33,62 +35,58 @@ module _ (P : Numbers) where
   unfoldable pub payments_rows : List (List ℤ)
   payments_rows = table 16 P.instruments payments_row (replicate 30 (pos 0))
 
--- what all patterns of a plan share, beside the payments
-unfoldable pub common_of : Plan → Common
-common_of plan = record {
-  years = plan.years;
-  instruments = plan.instruments;
-  terms = plan.terms;
-  allocation = plan.allocation;
-  rollover = rollover_array (numbers plan);
-  weights = weights_of (numbers plan).r;
-  constantflow = constant_array (numbers plan);
-  cost = plan.cost;
-  costed = plan.costed;
-}
+-- what all patterns of a plan share, of the code's record of it
+pub record IsOf (plan : Plan) (c : Common) : Type 0 where
+  pub years : c.rollover.horizon.years ≡ plan.years
+  pub terms : c.rollover.terms ≡ plan.terms
+  pub rollover : c.rollover.shares ≡ rollover_array (numbers plan)
+  pub instruments : c.instruments ≡ plan.instruments
+  pub payments : rows_of c.payments ≡ payments_rows (numbers plan)
+  pub constant : c.constant.amounts ≡ constant_array (numbers plan)
+  pub cost : c.cost ≡ plan.cost
 
 -- ---- what arrays say
--- what is shared, of a `Common` c and the rows of payments
-abbrev pub shared_in : (c : Common) (rows : List (List ℤ)) → Shared
-shared_in c rows = record {
-  years = c.years;
+-- the parts of n instruments
+abbrev pub parts_of : (n : ℕ) (shares : List ℕ) → ℕ → ℕ
+parts_of n shares = entry 0 n (λ j. get_or shares j 0)
+
+-- what is shared, of a `Common` c and the shares of an allocation
+abbrev pub shared_in : (c : Common) (shares : List ℕ) → Shared
+shared_in c shares = record {
+  years = c.rollover.horizon.years;
   instruments = c.instruments;
-  a = λ k. entry (pos 0) c.instruments (λ j. amounts_of (get_or rows j []) k);
-  constant_flow = amounts_of c.constantflow;
-  r = shares_of c.rollover;
-  p = entry 0 c.instruments (λ j. get_or c.allocation j 0);
-  cost = entry (pos 0) (pick c.costed c.instruments 0) (λ j. get_or c.cost j (pos 0));
-  costed = c.costed;
+  a = λ k. entry (pos 0) c.instruments (λ j. amounts_of (row_of c.payments j) k);
+  constant_flow = amounts_of c.constant.amounts;
+  r = shares_of c.rollover.shares;
+  p = parts_of c.instruments shares;
+  cost = entry (pos 0) (pick (is_some c.cost) c.instruments 0) (λ j. get_or (amounts_in c.cost) j (pos 0));
+  costed = is_some c.cost;
 }
 
--- what is left of the allocation, in which no payment has a part
-abbrev pub left_in : Common → ℤ
-left_in c = left_of (shared_in c [])
+-- what is left of the allocation
+abbrev pub left_in : (c : Common) (shares : List ℕ) → ℤ
+left_in c shares = left_of (shared_in c shares)
 
 -- the allocation's flow in years 1 to N
 unfoldable pub flow_array : Shared → List ℤ
 flow_array S = table 30 S.years (λ k. flow_of S (1 + k)) (pos 0)
 
--- the entries k of n rows
-unfoldable pub column_of : (n : ℕ) → List (List ℤ) → (k : ℕ) → List ℤ
-column_of n rows k = table 16 n (λ j. get_or (get_or rows j []) k (pos 0)) (pos 0)
+-- what is shared of a plan, with other parts than those of its allocation
+abbrev pub shared_with : Numbers → (p : ℕ → ℕ) → Shared
+shared_with P p = record {
+  years = P.years;
+  instruments = P.instruments;
+  a = P.a;
+  constant_flow = λ k. P.b k -ℤ P.o k;
+  r = P.r;
+  p = p;
+  cost = P.cost;
+  costed = P.costed;
+}
 
+-- ---- a weighted sum
 -- n amounts within the limit, and parts of at most 1,000,000 together
 pub record Weighable (n : ℕ) (x : List ℤ) (p : List ℕ) : Type 0 where
   pub few : n ≤ 16
   pub amount : (j : ℕ) → j < n → Within limit (get_or x j (pos 0))
   pub parts : sum_ℕ n (λ j. get_or p j 0) ≤ million
-
--- ---- what is prepared of an accepted plan can be reckoned: the counts, the rollover and its weights, the parts of the allocation,
--- every flow and cost within the limit, and no flow outside years 1 to N
-pub record Prepared (c : Common) (rows : List (List ℤ)) : Type 0 where
-  pub years : Years c.years
-  pub few : c.instruments ≤ 16
-  pub terms : Terms c.terms c.rollover
-  pub weights : c.weights ≡ weights_of (shares_of c.rollover)
-  pub parts : sum_ℕ c.instruments (λ j. get_or c.allocation j 0) ≤ million
-  pub payments : (j : ℕ) → j < c.instruments → Amounts (get_or rows j [])
-  pub constant : Amounts c.constantflow
-  pub costs : c.costed ≡ true → (j : ℕ) → j < c.instruments → Within limit (get_or c.cost j (pos 0))
-  pub flow : (k : ℕ) → Within limit (flow_of (shared_in c rows) k)
-  pub flow_held : amounts_of (flow_array (shared_in c rows)) ≡ flow_of (shared_in c rows)

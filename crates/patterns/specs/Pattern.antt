@@ -8,11 +8,10 @@ use Rattle.reckoning.specs.Reckoning.{left, flow, fund}
 use Rattle.reckoning.specs.Exact.{x, H, with_left}
 use Rattle.reckoning.specs.Bound.{h, B, value}
 use Rattle.reckoning.specs.Arrays.{fund_fits, fund_reckoned}
-use Rattle.reckoning.specs.declared.Reckoned.{Reckoned}
+use Rattle.reckoning.specs.Answers.{Reckoned}
 use Rattle.plan.specs.Held.{flag}
 use Rattle.plan.specs.Numbers.{Numbers}
-use Rattle.patterns.specs.declared.Coefficients.{Coefficients}
-use Rattle.patterns.specs.declared.FormAnswer.{FormAnswer}
+use Rattle.patterns.specs.Answers.{Coefficients, FormAnswer}
 
 -- what a refused form holds: its number, and zeros
 abbrev pub no_form : ℕ → FormAnswer

@@ -1,342 +1,261 @@
-// A plan in one pattern: the arrays that all patterns share, the fund, K and Q, the bound and the form.
+// A plan in one pattern: what no allocation changes, the allocation's flow, the fund, K and Q, the bound and the form.
 #![tactic(auto)]
 
-ghost use Rattle.std.specs.Prelude.{◌≡◌, true, ◌+◌, ◌≤◌, ◌<◌, get_or, pos, ◌*ℤ◌};
+mod allocation;
+mod common;
+
+ghost use Rattle.std.specs.Prelude.{◌≡◌, List, [], ℕ, ◌+◌, ◌≤◌, ◌<◌, length, get_or, pos, ◌*ℤ◌};
 ghost use Rattle.whole.specs.Range.{limit, Between, Within};
 ghost use Rattle.whole.specs.Sum.{sum};
+ghost use Rattle.whole.specs.Table.{table};
 ghost use Rattle.reckoning.specs.Bound.{h as largestOf, B};
-ghost use Rattle.reckoning.specs.Arrays.{shares_of, rates_of, amounts_of, Years, Rates, Amounts, Ready, fund_reckoned};
+ghost use Rattle.reckoning.specs.Arrays.{shares_of, rates_of, amounts_of, fund_reckoned};
+ghost use Rattle.reckoning.specs.Answers.{fund_shown};
 ghost use Rattle.plan.specs.Held.{flag};
 ghost use Rattle.plan.specs.Numbers.{numbers};
-ghost use Rattle.plan.specs.Refusal.{Accepted};
-ghost use Rattle.patterns.specs.Pattern.{no_form, shared_of, flow_reckoned, coefficients_reckoned, form_reckoned};
-ghost use Rattle.patterns.specs.Arrays.{rollover_array, rates_array, constant_array, payments_rows, common_of, shared_in, left_in, flow_array, column_of, Weighable, Prepared};
+ghost use Rattle.patterns.specs.Pattern.{shared_of, flow_of, bound_at, flow_reckoned, coefficients_reckoned, form_reckoned};
+ghost use Rattle.patterns.specs.Shown.{coefficients_shown, form_shown};
+ghost use Rattle.patterns.specs.Prepared.{row_of};
+ghost use Rattle.patterns.specs.Arrays.{rollover_array, rates_array, constant_array, payments_rows, IsOf, parts_of, shared_in, left_in, flow_array, shared_with, Weighable};
 
-use plan::Plan;
-use reckoning::Reckoned;
+pub use allocation::Allocation;
+pub use common::Common;
+use plan::{AcceptedPlan, Plan};
+use reckoning::{Flow, Horizon, NewMoney, Rollover};
+use refusal::Refusal;
 
+// The linear form of a pattern: K_1 to K_n, and zeros past them; Q; and its value at an allocation.
 #[derive(Clone, Copy)]
-pub struct FormAnswer {
-    pub refusal: u8,
+pub struct Form {
     pub coefficients: [i64; 16],
     pub constant: i64,
     pub value: i64,
 }
 
-// What all patterns of a plan share, beside the payments: N, n and q, the allocation (what stands past n plays no part), the
-// rollover and its weights, the flow of Q, whether the cost at the horizon is held, and that of each instrument (what stands there plays no
-// part where it is not held, nor past n).
-#[derive(Clone, Copy)]
-pub struct Common {
-    pub years: usize,
-    pub instruments: usize,
-    pub terms: usize,
-    pub allocation: [u32; 16],
-    pub rollover: [i64; 30],
-    pub weights: [i64; 30],
-    pub constantflow: [i64; 30],
-    pub cost: [i64; 16],
-    pub costed: bool,
-}
-
-// What `coefficients_of` answers: K_1 to K_n.
-#[derive(Clone, Copy)]
-pub struct Coefficients {
-    pub refusal: u8,
-    pub values: [i64; 16],
-}
-
 // ---- a plan's numbers, as the core takes them
 
-// The same number, signed.
-fn wide(x: u32) -> i64
-    ensures { result ≡ pos x }
+// N.
+pub fn horizon_of(plan: AcceptedPlan<'_>) -> Horizon
+    ensures { result.years ≡ plan.entry.plan.now.years }
 {
-    x as i64
+    Horizon::of(plan.plan.years)
 }
 
-// r_1 to r_q, and zeros past them.
-pub fn rollover_of(plan: Plan) -> [i64; 30]
-    requires { Accepted (numbers plan) }
-    ensures { result ≡ rollover_array (numbers plan) }
+// The rollover: r_1 to r_q, and zeros past them.
+pub fn rollover_of(plan: AcceptedPlan<'_>) -> Rollover
+    ensures years { result.horizon.years ≡ plan.entry.plan.now.years }
+    ensures terms { result.terms ≡ plan.entry.plan.now.terms }
+    ensures shares { result.shares ≡ rollover_array (numbers plan.entry.plan.now) }
+    ensures held { shares_of result.shares ≡ (numbers plan.entry.plan.now).r }
 {
-    let xs = plan.rollover;
-    let q = plan.terms;
-    let mut v = [0i64; 30];
-    for d in 0..q {
-        v[d] = wide(xs[d]);
-    }
-    v
+    let horizon = horizon_of(plan);
+    let plan = plan.plan;
+    let shares = std::array::from_fn(|d| if d < plan.terms {
+        i64::from(plan.rollover[d])
+    } else {
+        0
+    });
+    Rollover::of(horizon, plan.terms, shares)
 }
 
-// i_2 to i_N of pattern t, which counts from 1, and zeros past them; only zeros if N = 1.
-pub fn rates_of(plan: Plan, t: usize) -> [i64; 30]
-    requires accepted { Accepted (numbers plan) }
-    requires le_t { 1 ≤ t }
-    requires t_le_patterns { t ≤ plan.patterns }
-    ensures { result ≡ rates_array (numbers plan) t }
+// i_2 to i_N of pattern t, which counts from 0, and zeros past them; only zeros if N = 1.
+pub fn new_money(plan: AcceptedPlan<'_>, t: usize) -> NewMoney
+    requires { t < plan.plan.now.patterns }
+    ensures is { result.rates ≡ rates_array (numbers plan.entry.plan.now) (1 + t) }
+    ensures held { rates_of result.rates ≡ (numbers plan.entry.plan.now).i (1 + t) }
 {
-    let at = t - 1;
-    let pattern = plan.pattern;
-    let row = pattern[at];
-    let years = plan.years;
-    plan::rates(row, years)
-}
-
-// The payments of instruments 1 to n in years 1 to N, and zeros past either.
-pub fn payments_of(plan: Plan) -> [[i64; 30]; 16]
-    requires { Accepted (numbers plan) }
-    ensures { result ≡ payments_rows (numbers plan) }
-{
-    let n = plan.instruments;
-    let years = plan.years;
-    let instrument = plan.instrument;
-    let mut rows = [[0i64; 30]; 16];
-    for j in 0..n {
-        let one = instrument[j];
-        rows[j] = plan::payments(one, years);
-    }
-    rows
-}
-
-// The flow of Q, which no allocation changes: b - o in years 1 to N, and zeros past them.
-pub fn constant_flow_of(plan: Plan) -> [i64; 30]
-    requires { Accepted (numbers plan) }
-    ensures { result ≡ constant_array (numbers plan) }
-{
-    let years = plan.years;
-    let opened = plan.opened;
-    let b = plan.opening;
-    let o = plan.outflows;
-    let mut v = [0i64; 30];
-    for k in 0..years {
-        v[k] = plan::amount_held(opened, b[k]) - o[k];
-    }
-    v
-}
-
-// What all patterns of the plan share, with the flow of Q, which the caller has made.
-pub fn common_of(plan: Plan, constant: [i64; 30]) -> Common
-    requires accepted { Accepted (numbers plan) }
-    requires constant_value { constant ≡ constant_array (numbers plan) }
-    ensures { result ≡ common_of plan }
-{
-    let terms = plan.terms;
-    let r = rollover_of(plan);
-    let w = reckoning::weights(r, terms);
-    let p = plan.allocation;
-    let cost = plan.cost;
-    Common {
-        years: plan.years,
-        instruments: plan.instruments,
-        terms: terms,
-        allocation: p,
-        rollover: r,
-        weights: w,
-        constantflow: constant,
-        cost: cost,
-        costed: plan.costed,
+    let plan = plan.plan;
+    NewMoney {
+        rates: plan.pattern[t].rates(plan.years),
     }
 }
 
-// What n instruments pay in year k + 1, and zeros past them.
-fn column(payments: &[[i64; 30]; 16], n: usize, k: usize) -> [i64; 16]
-    requires n_bound { n ≤ 16 }
-    requires k_bound { k < 30 }
-    ensures { result ≡ column_of n payments.now k }
+// What instrument 1 + j pays in years 1 to N, and zeros past them; zeros alone past the last instrument.
+fn payments_of(plan: AcceptedPlan<'_>, j: usize) -> Flow
+    requires { j < 16 }
+    ensures { result.amounts ≡ get_or (payments_rows (numbers plan.entry.plan.now)) j [] }
 {
-    let mut v = [0i64; 16];
-    for j in 0..n {
-        v[j] = payments[j][k];
+    let plan = plan.plan;
+    if j >= plan.instruments {
+        return Flow { amounts: [0; 30] };
     }
-    v
-}
-
-// The sum of n amounts, each times its part; 0 of none.
-fn weighted(x: [i64; 16], p: [u32; 16], n: usize) -> i64
-    requires { Weighable n x p }
-    ensures { result ≡ sum n (λ j. get_or x j (pos 0) *ℤ pos (get_or p j 0)) }
-{
-    let mut s: i64 = 0;
-    for j in 0..n {
-        let f = wide(p[j]);
-        s += x[j] * f;
+    Flow {
+        amounts: plan.instrument[j].payments(plan.years),
     }
-    s
 }
 
-// The allocation's flow in years 1 to N, and zeros past them.
-pub fn flow_of(common: Common, payments: &[[i64; 30]; 16]) -> [i64; 30]
-    requires { Prepared common payments.now }
-    ensures { result ≡ flow_array (shared_in common payments.now) }
+// The flow of Q, which no allocation changes, in year 1 + k: b - o.
+fn constant_in(plan: AcceptedPlan<'_>, k: usize) -> i64
+    requires { k < plan.plan.now.years }
+    ensures { result ≡ (shared_of (numbers plan.entry.plan.now)).constant_flow (1 + k) }
 {
-    let years = common.years;
-    let n = common.instruments;
-    let p = common.allocation;
-    let constant = common.constantflow;
-    let mut v = [0i64; 30];
-    for k in 0..years {
-        let c = column(payments, n, k);
-        let z = weighted(c, p, n);
-        v[k] = whole::down(z) + constant[k];
+    plan::amount_at(&plan.plan.opening, k) - plan.plan.outflows[k]
+}
+
+// The same in years 1 to N, and zeros past them.
+fn constant_of(plan: AcceptedPlan<'_>) -> Flow
+    ensures { result.amounts ≡ constant_array (numbers plan.entry.plan.now) }
+{
+    Flow {
+        amounts: std::array::from_fn(|k| if k < plan.plan.years {
+            constant_in(plan, k)
+        } else {
+            0
+        }),
     }
-    v
 }
 
-// What is left of the allocation at the horizon, in whole amounts; 0 where no cost is held.
-pub fn left_of(common: Common) -> i64
-    requires { common.costed ≡ true → Weighable common.instruments common.cost common.allocation }
-    ensures value { result ≡ left_in common }
-    ensures within { Within limit result }
+// The allocation's flow of a plan: the project's own leaf and no entry.
+pub fn allocation_flow(plan: AcceptedPlan<'_>) -> Flow
+    ensures is { result.amounts ≡ flow_array (shared_of (numbers plan.entry.plan.now)) }
+    ensures held { amounts_of result.amounts ≡ flow_of (shared_of (numbers plan.entry.plan.now)) }
 {
-    let costed = common.costed;
-    if !costed {
-        return 0;
-    }
-    let n = common.instruments;
-    let cost = common.cost;
-    let p = common.allocation;
-    let z = weighted(cost, p, n);
-    whole::down(z)
+    Common::of(plan).flow(&Allocation::of(plan))
 }
 
-// The allocation's flow of a plan that was already checked: the project's own leaf and no entry.
-pub fn allocation_flow(plan: Plan) -> [i64; 30]
-    requires { Accepted (numbers plan) }
-    ensures { result ≡ flow_array (shared_of (numbers plan)) }
-{
-    let constant = constant_flow_of(plan);
-    let common = common_of(plan, constant);
-    let payments = payments_of(plan);
-    flow_of(common, &payments)
-}
-
-// ---- one pattern, at the rates i
-
-// The fund of a flow, with the amount that is left at the horizon; refused 11, and 0, where check 11 does not take it or a cell.
-pub fn fund_at(common: Common, flow: &[i64; 30], left: i64, i: &[i64; 30]) -> Reckoned
-    requires ready { Ready common.terms common.rollover common.weights i.now }
-    requires amounts { Amounts flow.now }
-    requires years { Years common.years }
-    requires within { Within limit left }
-    ensures value { result ≡ fund_reckoned (shares_of common.rollover) (rates_of i.now) (amounts_of flow.now) common.years left }
-    ensures within_2 { Within limit result.fund }
-{
-    let years = common.years;
-    let q = common.terms;
-    let r = common.rollover;
-    let w = common.weights;
-    reckoning::fund(flow, &r, &w, i, years, q, left)
-}
-
-// Q, the fund of the flow that no allocation changes, of which nothing is left; refused 11, and 0, as that of any flow.
-pub fn constant_at(common: Common, i: &[i64; 30]) -> Reckoned
-    requires ready { Ready common.terms common.rollover common.weights i.now }
-    requires amounts { Amounts common.constantflow }
-    requires years { Years common.years }
-    ensures value { result ≡ fund_reckoned (shares_of common.rollover) (rates_of i.now) (amounts_of common.constantflow) common.years (pos 0) }
-    ensures within { Within limit result.fund }
-{
-    let constant_flow = common.constantflow;
-    fund_at(common, &constant_flow, 0, i)
-}
-
-// K_1 to K_n, the funds of the instruments' payments with their costs, and zeros past them; refused 11, and all zeros, where check 11 does
-// not take one.
-pub fn coefficients_of(common: Common, payments: &[[i64; 30]; 16], i: &[i64; 30]) -> Coefficients
-    requires prepared { Prepared common payments.now }
-    requires rates { Rates i.now }
-    ensures { result ≡ coefficients_reckoned (shared_in common payments.now) (rates_of i.now) }
-{
-    let n = common.instruments;
-    let years = common.years;
-    let q = common.terms;
-    let r = common.rollover;
-    let w = common.weights;
-    let costed = common.costed;
-    let cost = common.cost;
-    let mut k = [0i64; 16];
-    for j in 0..n {
-        let left = plan::amount_held(costed, cost[j]);
-        let c = reckoning::fund(&payments[j], &r, &w, i, years, q, left);
-        let no = c.refusal;
-        if no != 0 {
-            return Coefficients {
-                refusal: 11,
-                values: [0i64; 16],
-            };
+impl Allocation {
+    // That of a plan: p_1 to p_n, and zeros past them.
+    pub fn of(plan: AcceptedPlan<'_>) -> Allocation
+        ensures is { result.shares ≡ table 16 plan.entry.plan.now.instruments (λ j. get_or plan.entry.plan.now.allocation j 0) 0 }
+        ensures held { parts_of plan.entry.plan.now.instruments result.shares ≡ (numbers plan.entry.plan.now).p }
+    {
+        let plan = plan.plan;
+        Allocation {
+            shares: std::array::from_fn(|j| if j < plan.instruments {
+                plan.allocation[j]
+            } else {
+                0
+            }),
         }
-        let z = c.fund;
-        k[j] = z;
     }
-    Coefficients {
-        refusal: 0,
-        values: k,
+
+    // The sum of some amounts, each times its part; 0 of none.
+    fn weighed(&self, amounts: &[i64]) -> i64
+        requires { Weighable (length amounts.now) amounts.now self.now.shares }
+        ensures { result ≡ sum (length amounts.now) (λ j. get_or amounts.now j (pos 0) *ℤ pos (get_or self.now.shares j 0)) }
+    {
+        let mut sum = 0;
+        for (x, p) in amounts.iter().zip(&self.shares) {
+            sum += x * i64::from(*p);
+        }
+        sum
     }
 }
 
-// The fund of the allocation, with what is left of it; refused 11, and 0, where check 11 does not take it or a cell.
-pub fn allocation_at(common: Common, payments: &[[i64; 30]; 16], i: &[i64; 30]) -> Reckoned
-    requires prepared { Prepared common payments.now }
-    requires rates { Rates i.now }
-    ensures { result ≡ flow_reckoned (shared_in common payments.now) (rates_of i.now) }
-{
-    let flow = flow_of(common, payments);
-    let left = left_of(common);
-    fund_at(common, &flow, left, i)
-}
+impl Common {
+    // That of a plan.
+    pub fn of(plan: AcceptedPlan<'_>) -> Common
+        ensures is { IsOf plan.entry.plan.now result }
+        ensures shared { (shares : List ℕ) → shared_in result shares ≡ shared_with (numbers plan.entry.plan.now) (parts_of plan.entry.plan.now.instruments shares) }
+    {
+        Common {
+            rollover: rollover_of(plan),
+            instruments: plan.plan.instruments,
+            payments: std::array::from_fn(|j| payments_of(plan, j)),
+            constant: constant_of(plan),
+            cost: plan.plan.cost,
+        }
+    }
 
-// B of a pattern of the rates i over so many years: one more where the cost at the horizon is held.
-pub fn bound_at(i: &[i64; 30], years: usize, costed: bool) -> i64
-    requires rates { Rates i.now }
-    requires years { Years years }
-    ensures value { result ≡ pos (B (largestOf (rates_of i.now) years) years + flag costed) }
-    ensures between { Between (pos 0) (pos 4_294_967_296) result }
-{
-    let b = reckoning::bound(i, years);
-    if costed {
-        return b + 1;
+    // What instrument 1 + j pays in year 1 + k.
+    fn payment(&self, j: usize, k: usize) -> i64
+        requires j_few { j < 16 }
+        requires k_few { k < 30 }
+        ensures { result ≡ get_or (row_of self.now.payments j) k (pos 0) }
+    {
+        self.payments[j].amounts[k]
     }
-    b
-}
 
-// The answer for a form that is refused: the refusal's number, and zeros.
-pub fn no_form(refusal: u8) -> FormAnswer
-    ensures { result ≡ no_form refusal }
-{
-    FormAnswer {
-        refusal: refusal,
-        coefficients: [0i64; 16],
-        constant: 0,
-        value: 0,
-    }
-}
+    // ---- an allocation
 
-// K_1 to K_n, Q and the value at the allocation; refused 11, and zeros, where check 11 does not take an instrument or Q.
-pub fn form_at(common: Common, payments: &[[i64; 30]; 16], i: &[i64; 30]) -> FormAnswer
-    requires prepared { Prepared common payments.now }
-    requires rates { Rates i.now }
-    ensures { result ≡ form_reckoned (shared_in common payments.now) (rates_of i.now) }
-{
-    let c = coefficients_of(common, payments, i);
-    let no = c.refusal;
-    if no != 0 {
-        return no_form(11);
+    // The allocation's flow in year 1 + k: what it pays, in whole amounts, and the flow of Q.
+    fn flow_in(&self, p: &Allocation, k: usize) -> i64
+        requires { k < self.now.rollover.horizon.years }
+        ensures { result ≡ flow_of (shared_in self.now p.now.shares) (1 + k) }
+    {
+        let column: [i64; 16] = std::array::from_fn(|j| self.payment(j, k));
+        whole::down(p.weighed(&column[..self.instruments])) + self.constant.amounts[k]
     }
-    let d = constant_at(common, i);
-    let also = d.refusal;
-    if also != 0 {
-        return no_form(11);
+
+    // The same in years 1 to N, and zeros past them.
+    pub fn flow(&self, p: &Allocation) -> Flow
+        ensures is { result.amounts ≡ flow_array (shared_in self.now p.now.shares) }
+        ensures held { amounts_of result.amounts ≡ flow_of (shared_in self.now p.now.shares) }
+    {
+        let years = self.rollover.horizon.years;
+        Flow {
+            amounts: std::array::from_fn(|k| if k < years { self.flow_in(p, k) } else { 0 }),
+        }
     }
-    let k = c.values;
-    let p = common.allocation;
-    let n = common.instruments;
-    let z = weighted(k, p, n);
-    let constant = d.fund;
-    FormAnswer {
-        refusal: 0,
-        coefficients: k,
-        constant: constant,
-        value: whole::down(z) + constant,
+
+    // What is left of the allocation at the horizon, in whole amounts; 0 where no cost is held.
+    pub fn left(&self, p: &Allocation) -> i64
+        ensures value { result ≡ left_in self.now p.now.shares }
+        ensures within { Within limit result }
+    {
+        let costs: [i64; 16] = std::array::from_fn(|j| plan::amount_at(&self.cost, j));
+        whole::down(p.weighed(&costs[..self.instruments]))
+    }
+
+    // ---- one pattern, at the rates i
+
+    // The fund of a flow, with the amount that is left at the horizon; refused where check 11 does not take it or a cell.
+    // kept: a type of a flow and what is left of it is no plainer: it would be built for this one call at each instrument and at Q
+    pub fn fund(&self, flow: &Flow, left: i64, i: &NewMoney) -> Result<i64, Refusal>
+        requires { Within limit left }
+        ensures value { fund_shown result ≡ fund_reckoned (shares_of self.now.rollover.shares) (rates_of i.now.rates) (amounts_of flow.now.amounts) self.now.rollover.horizon.years left }
+        ensures within { Within limit (fund_shown result).fund }
+        ensures allocation { (shares : List ℕ) → amounts_of flow.now.amounts ≡ flow_of (shared_in self.now shares) → left ≡ left_in self.now shares
+            → fund_shown result ≡ flow_reckoned (shared_in self.now shares) (rates_of i.now.rates) }
+    {
+        self.rollover.fund(flow, i, left)
+    }
+
+    // Q, the fund of the flow that no allocation changes, of which nothing is left; refused as that of any flow.
+    pub fn constant(&self, i: &NewMoney) -> Result<i64, Refusal>
+        ensures value { fund_shown result ≡ fund_reckoned (shares_of self.now.rollover.shares) (rates_of i.now.rates) (amounts_of self.now.constant.amounts) self.now.rollover.horizon.years (pos 0) }
+        ensures within { Within limit (fund_shown result).fund }
+    {
+        self.fund(&self.constant, 0, i)
+    }
+
+    // K_1 to K_n, the funds of the instruments' payments with their costs, and zeros past them; refused where check 11 does not take one.
+    pub fn coefficients(&self, i: &NewMoney) -> Result<[i64; 16], Refusal>
+        ensures { (shares : List ℕ) → coefficients_shown result ≡ coefficients_reckoned (shared_in self.now shares) (rates_of i.now.rates) }
+    {
+        let mut k = [0; 16];
+        for (j, payments) in self.payments[..self.instruments].iter().enumerate() {
+            k[j] = self.fund(payments, plan::amount_at(&self.cost, j), i)?;
+        }
+        Ok(k)
+    }
+
+    // The fund of the allocation, with what is left of it; refused where check 11 does not take it or a cell.
+    pub fn allocation_fund(&self, p: &Allocation, i: &NewMoney) -> Result<i64, Refusal>
+        ensures { fund_shown result ≡ flow_reckoned (shared_in self.now p.now.shares) (rates_of i.now.rates) }
+    {
+        self.fund(&self.flow(p), self.left(p), i)
+    }
+
+    // B of the pattern: one more where the cost at the horizon is held.
+    pub fn bound(&self, i: &NewMoney) -> i64
+        ensures value { (shares : List ℕ) → result ≡ pos (bound_at (shared_in self.now shares) (rates_of i.now.rates)) }
+        ensures between { Between (pos 0) (pos 4_294_967_296) result }
+    {
+        i.bound(self.rollover.horizon) + i64::from(self.cost.is_some())
+    }
+
+    // K_1 to K_n, Q and the value at the allocation; refused where check 11 does not take an instrument or Q.
+    pub fn form(&self, p: &Allocation, i: &NewMoney) -> Result<Form, Refusal>
+        ensures { form_shown result ≡ form_reckoned (shared_in self.now p.now.shares) (rates_of i.now.rates) }
+    {
+        let coefficients = self.coefficients(i)?;
+        let constant = self.constant(i)?;
+        let value = whole::down(p.weighed(&coefficients[..self.instruments])) + constant;
+        Ok(Form {
+            coefficients,
+            constant,
+            value,
+        })
     }
 }

@@ -1,25 +1,31 @@
 -- What the tests of the plan's arrays say of its numbers, and what a plan has that is not refused.
 use mathlib.Core.Path.{◌≡◌, refl, sym, ap, ◌∙◌, subst}
 use mathlib.Core.Bool.{Bool, true, false}
-use mathlib.Core.List.{List, []}
+use mathlib.Core.List.{List, [], ◌∷◌}
 use Prim.Native.Nat.{ℕ, zero, suc, ◌+◌, ◌-◌, ◌≤◌, ◌<◌}
 use native.Mathlib.Omega.{arith}
 use borrow.Author.Tests.{eqb-true, eq-eqb}
 use lib.Dec.{eqb}
-use lib.ListN.{get_or}
-use lib.IntN.{ℤ, pos}
+use lib.ListN.{length, get_or, get_or-eq_default, take}
+use Rattle.std.proofs.lemmas.List.{get_or-take}
+use Rattle.std.proofs.lemmas.List.Sums.{sum_by-cons}
+use Rattle.std.specs.Bool.{MatchBool}
+use Rattle.std.specs.List.{AllWithin, HoldsAt}
+use mathlib.Core.Logic.{⊎_elim}
+use Rattle.whole.proofs.Laws.{ℕ_cases}
+use lib.IntN.{ℤ, pos, neg_ℤ}
+use Rattle.std.specs.Prelude.{is_some, sum}
 use Rattle.whole.specs.Range.{million, Between, Within}
 use Rattle.whole.specs.Sum.{sum_ℕ}
 use Rattle.whole.specs.Test.{pick, all, is_from, is_between, is_within}
-use Rattle.whole.specs.Table.{table}
 use Rattle.whole.proofs.Bridge.{whole}
 use Rattle.whole.specs.Entry.{entry}
 use Rattle.whole.proofs.Entry.{entry_each, entry_own}
 use Rattle.whole.proofs.Table.{table_at}
-use Rattle.whole.proofs.Sum.{Σℕ_from}
-use Rattle.whole.proofs.Test.{both_first, both_second, all_yes, all_at, all_cong, between_fact, between_yes, from_low, from_high, from_yes, pick_few}
-use Rattle.plan.specs.Held.{Held, instrument_held, pattern_held, missing_pattern, outflows_held, opening_held, cost_held}
-use Rattle.plan.specs.Numbers.{Numbers, rate_of, until_of, payments_meant, rates_meant, meaning, numbers}
+use Rattle.whole.proofs.Sum.{sum_ℕ_none, sum_ℕ_first, sum_ℕ_const, Σℕ_from}
+use Rattle.whole.proofs.Test.{false_true, both_first, both_second, all_yes, all_at, all_cong, between_fact, between_yes, from_low, from_high, from_yes, pick_few}
+use Rattle.plan.specs.Held.{Held, is_slope, row_until, pattern_held, amounts_in, missing_pattern, outflows_held, opening_held, cost_held, SlopeTyped, Typed}
+use Rattle.plan.specs.Numbers.{Numbers, rate_in, rate_of, until_of, rates_meant, meaning, numbers}
 use Rattle.plan.specs.Refusal.{
   check,
   first_of,
@@ -50,28 +56,43 @@ use Rattle.plan.specs.Refusal.{
 use Rattle.plan.specs.declared.Instrument.{Instrument}
 use Rattle.plan.specs.declared.Pattern.{Pattern}
 use Rattle.plan.specs.declared.Plan.{Plan}
-use Rattle.plan.proofs.Held.{instrument_is, pattern_is, outflow_is, opening_is, cost_is, cost_none, rollover_is, rollover_past, allocation_is, payment_is, rate_is, until_is, instrument_each, pattern_each}
+use Rattle.plan.proofs.All.{all_first}
+use Rattle.plan.proofs.Held.{pattern_is, outflow_is, opening_is, cost_is, cost_none, rollover_is, rollover_past, allocation_is, payment_is, rate_is, until_is, instrument_each, pattern_each}
 
 -- ---- each test of an array is the test of the numbers that stand there
--- the first n of an array lie between 0 and b
-abbrev pub up_to : (b n : ℕ) → List ℤ → Bool
-up_to b n xs = all n (λ k. is_between (pos 0) (pos b) (get_or xs k (pos 0)))
+-- each of some amounts lies between two bounds
+abbrev pub all_in : (low high : ℤ) → List ℤ → Bool
+all_in low high xs = all (length xs) (λ k. is_between low high (get_or xs k (pos 0)))
 
--- what the instrument at j pays, and the rates of the pattern at t
-abbrev pub payments_tested : (rows : List Instrument) (years j : ℕ) → Bool
-payments_tested rows years j = up_to most years (payments_meant years (instrument_held years (get_or rows j (record { payments = [] }))))
+-- each of the first n, where 0 does too
+pub first_in : (low high : ℤ) (n : ℕ) (xs : List ℤ) → Between low high (pos 0) → all_in low high (take n xs) ≡ all n (λ k. is_between low high (get_or xs k (pos 0)))
+first_in low high n xs h = all_first xs (pos 0) n (is_between low high) (between_yes _ _ _ h)
 
-abbrev pub rates_tested : (rows : List Pattern) (years t : ℕ) → Bool
-rates_tested rows years t = up_to top (years - 1) (rates_meant years (pattern_held years (get_or rows t missing_pattern)))
+-- so does what there is none of
+pub none_in : (b n : ℕ) → all n (λ k. is_between (pos 0) (pos b) (get_or [] k (pos 0))) ≡ true
+none_in b n = all_yes n _ (λ k l. between_yes _ _ _ (omega whole))
 
-abbrev pub until_tested : (rows : List Pattern) (t : ℕ) → Bool
-until_tested rows t = let row = get_or rows t missing_pattern in is_from 1 30 (pick row.sloped row.until 1)
+-- the sum of the first n shares
+sum_first : (n : ℕ) (xs : List ℕ) → sum (take n xs) ≡ sum_ℕ n (λ k. get_or xs k 0)
+sum_first zero xs = sym (sum_ℕ_none _)
+sum_first (suc n) [] = sym (sum_ℕ_const (suc n) 0 ∙ omega arith)
+sum_first (suc n) (x ∷ xs) = sum_by-cons (λ y. y) x (take n xs) ∙ ap (λ (s : ℕ). x + s) (sum_first n xs) ∙ sym (sum_ℕ_first n (λ k. get_or (x ∷ xs) k 0))
 
--- an array that is filled with f has passed if each f has
-up_to_table : (b n : ℕ) (f : ℕ → ℤ) → n ≤ 30 → up_to b n (table 30 n f (pos 0)) ≡ all n (λ k. is_between (pos 0) (pos b) (f k))
-up_to_table b n f few = all_cong n _ _ (λ k l. ap (is_between (pos 0) (pos b)) (table_at 30 n f (pos 0) (pos 0) k l few))
+-- what an instrument pays, the rates of a pattern, and T where it is a slope
+abbrev pub payments_tested : (years : ℕ) → Instrument → Bool
+payments_tested years row = all_in (pos 0) (pos most) (take years row.payments)
 
--- and where money already invested pays nothing, it has passed
+abbrev pub rates_tested : (years : ℕ) → Pattern → Bool
+rates_tested years row = all_in (pos 0) (pos top) (take (years - 1) (rates_meant years (pattern_held years row)))
+
+abbrev pub until_tested : Pattern → Bool
+until_tested row = is_from 1 30 (pick (is_slope row) (row_until row) 1)
+
+-- the first n rows of an array pass
+abbrev pub rows_pass : {A : Type 0} → A → (A → Bool) → List A → Bool
+rows_pass d p rows = all (length rows) (λ k. p (get_or rows k d))
+
+-- where money already invested pays nothing, it has passed
 pub opening_passes : (P : Numbers) → ((k : ℕ) → P.b k ≡ pos 0) → opening_ok P ≡ true
 unfolding opening_ok
 opening_passes P none = all_yes P.years _ (λ k l. between_yes _ _ _ (rw (none (1 + k)) (omega whole)))
@@ -87,44 +108,64 @@ unfolding untils_ok
 untils_none H none = all_yes H.shape.patterns _ (λ t h. rw (none (1 + t)))
 
 module _ (plan : Plan) where
-  module _ (years_few : plan.years ≤ 30) where
-    pub payments_ok_law : all plan.instruments (payments_tested plan.instrument plan.years) ≡ payments_ok (numbers plan)
-    unfolding payments_ok payments_fit
-    payments_ok_law = all_cong plan.instruments _ _ (λ j h.
-        rw (instrument_is plan j h) (up_to_table most plan.years _ years_few))
+  pub payments_ok_law : rows_pass (record { payments = [] }) (payments_tested plan.years) (take plan.instruments plan.instrument) ≡ payments_ok (numbers plan)
+  unfolding payments_ok payments_fit
+  payments_ok_law =
+      all_first plan.instrument _ plan.instruments (payments_tested plan.years) (first_in (pos 0) (pos most) plan.years [] (omega whole) ∙ none_in most plan.years)
+      ∙ all_cong plan.instruments _ _ (λ j h.
+      first_in (pos 0) (pos most) plan.years _ (omega whole)
+      ∙ all_cong plan.years _ _ (λ k l. ap (is_between (pos 0) (pos most)) (sym (payment_is plan j k h l))))
 
-    pub rates_ok_law : all plan.patterns (rates_tested plan.pattern plan.years) ≡ rates_ok (numbers plan)
-    unfolding rates_ok rates_fit
-    rates_ok_law = all_cong plan.patterns _ _ (λ t h.
-        up_to_table top (plan.years - 1) _ (omega arith)
-        ∙ all_cong (plan.years - 1) _ _ (λ l k. ap (is_between (pos 0) (pos top)) (sym (rate_is plan t l h k))))
+  -- the rates of a pattern fill an array
+  rates_row : (years : ℕ) (row : Pattern) → years ≤ 30 → rates_tested years row ≡ all (years - 1) (λ l. is_between (pos 0) (pos top) (rate_in (pattern_held years row) l))
+  rates_row years row few =
+      first_in (pos 0) (pos top) (years - 1) _ (omega whole)
+      ∙ all_cong (years - 1) _ _ (λ l k. ap (is_between (pos 0) (pos top)) (table_at 30 (years - 1) (rate_in (pattern_held years row)) (pos 0) (pos 0) l k (omega arith)))
+
+  pub rates_ok_law : plan.years ≤ 30 → rows_pass missing_pattern (rates_tested plan.years) (take plan.patterns plan.pattern) ≡ rates_ok (numbers plan)
+  unfolding rates_ok rates_fit
+  rates_ok_law few =
+      all_first plan.pattern _ plan.patterns (rates_tested plan.years) (rates_row plan.years missing_pattern few ∙ all_yes (plan.years - 1) _ (λ l k. between_yes _ _ _ (entry_each (pos 0) (plan.years - 1) _ (Between (pos 0) (pos top)) (omega whole) (λ l k. omega whole) (1 + l))))
+      ∙ all_cong plan.patterns _ _ (λ t h.
+      rates_row plan.years _ few
+      ∙ all_cong (plan.years - 1) _ _ (λ l k. ap (is_between (pos 0) (pos top)) (sym (rate_is plan t l h k))))
 
   -- T of a pattern is looked at where it is a slope
-  pub untils_ok_law : all plan.patterns (until_tested plan.pattern) ≡ untils_ok (numbers plan)
+  pub untils_ok_law : rows_pass missing_pattern until_tested (take plan.patterns plan.pattern) ≡ untils_ok (numbers plan)
   unfolding untils_ok
-  untils_ok_law = all_cong plan.patterns _ _ (λ t h. ap (is_from 1 30) (sym (until_is plan t h)))
+  untils_ok_law = all_first plan.pattern _ plan.patterns until_tested refl ∙ all_cong plan.patterns _ _ (λ t h. ap (is_from 1 30) (sym (until_is plan t h)))
 
-  pub outflows_ok_law : all plan.years (λ k. is_within most (get_or plan.outflows k (pos 0))) ≡ outflows_ok (numbers plan)
+  -- and a row that passes has the widths of its types
+  pub typed_from : (r : Bool) → MatchBool r (AllWithin (λ row. (until_tested row ≡ true) × SlopeTyped row) (take plan.patterns plan.pattern) 0 (length (take plan.patterns plan.pattern)))
+      ((k : ℕ) × (k < length (take plan.patterns plan.pattern)) × HoldsAt (λ row. until_tested row ≡ false) (take plan.patterns plan.pattern) k)
+      → r ≡ true → Typed plan
+  typed_from false h e t l = absurd (false_true e)
+  typed_from true h e t l =
+      let rows = take plan.patterns plan.pattern in
+      subst SlopeTyped (get_or-take plan.patterns plan.pattern t missing_pattern l)
+      (⊎_elim (λ (i : t < length rows). (h t missing_pattern (omega arith) i).1)
+      (λ (i : length rows ≤ t). subst SlopeTyped (sym (get_or-eq_default rows missing_pattern i)) (record { start = omega whole; step = omega whole }))
+      (ℕ_cases t (length rows)))
+
+  pub outflows_ok_law : all_in (neg_ℤ (pos most)) (pos most) (take plan.years plan.outflows) ≡ outflows_ok (numbers plan)
   unfolding outflows_ok
-  outflows_ok_law = all_cong plan.years _ _ (λ k l. ap (is_within most) (sym (outflow_is plan k l)))
+  outflows_ok_law = first_in _ _ plan.years plan.outflows (omega whole) ∙ all_cong plan.years _ _ (λ k l. ap (is_within most) (sym (outflow_is plan k l)))
 
-  -- money already invested is looked at where it is held
-  pub opening_ok_law : plan.opened ≡ true → up_to most plan.years plan.opening ≡ opening_ok (numbers plan)
+  pub opening_ok_law : all plan.years (λ k. is_between (pos 0) (pos most) (get_or (amounts_in plan.opening) k (pos 0))) ≡ opening_ok (numbers plan)
   unfolding opening_ok
-  opening_ok_law e = all_cong plan.years _ _ (λ k l. ap (is_between (pos 0) (pos most)) (sym (opening_is plan k l ∙ rw e)))
+  opening_ok_law = all_cong plan.years _ _ (λ k l. ap (is_between (pos 0) (pos most)) (sym (opening_is plan k l)))
 
-  -- so is the cost
-  pub cost_ok_law : plan.costed ≡ true → up_to most plan.instruments plan.cost ≡ cost_ok (numbers plan)
+  pub cost_ok_law : all plan.instruments (λ j. is_between (pos 0) (pos most) (get_or (amounts_in plan.cost) j (pos 0))) ≡ cost_ok (numbers plan)
   unfolding cost_ok
-  cost_ok_law e = all_cong plan.instruments _ _ (λ j l. ap (is_between (pos 0) (pos most)) (sym (cost_is plan j l ∙ rw e)))
+  cost_ok_law = all_cong plan.instruments _ _ (λ j l. ap (is_between (pos 0) (pos most)) (sym (cost_is plan j l)))
 
-  pub rollover_ok_law : eqb (sum_ℕ plan.terms (λ d. get_or plan.rollover d 0)) million ≡ rollover_ok (numbers plan)
+  pub rollover_ok_law : eqb (sum (take plan.terms plan.rollover)) million ≡ rollover_ok (numbers plan)
   unfolding rollover_ok
-  rollover_ok_law = ap (λ (s : ℕ). eqb s million) (sym (Σℕ_from 1 plan.terms plan.terms (numbers plan).r _ (omega arith) (rollover_is plan)))
+  rollover_ok_law = ap (λ (s : ℕ). eqb s million) (sum_first plan.terms plan.rollover ∙ sym (Σℕ_from 1 plan.terms plan.terms (numbers plan).r _ (omega arith) (rollover_is plan)))
 
-  pub allocation_ok_law : eqb (sum_ℕ plan.instruments (λ j. get_or plan.allocation j 0)) million ≡ allocation_ok (numbers plan)
+  pub allocation_ok_law : eqb (sum (take plan.instruments plan.allocation)) million ≡ allocation_ok (numbers plan)
   unfolding allocation_ok
-  allocation_ok_law = ap (λ (s : ℕ). eqb s million) (sym (Σℕ_from 1 plan.instruments plan.instruments (numbers plan).p _ (omega arith) (allocation_is plan)))
+  allocation_ok_law = ap (λ (s : ℕ). eqb s million) (sum_first plan.instruments plan.allocation ∙ sym (Σℕ_from 1 plan.instruments plan.instruments (numbers plan).p _ (omega arith) (allocation_is plan)))
 
 -- ---- checks that are passed
 pub check_true : (b : Bool) (number rest : ℕ) → 0 < number → check b number rest ≡ 0 → b ≡ true
@@ -193,8 +234,8 @@ module _ (plan : Plan) where
       (λ k l. rw (← payment_is plan j k h l) (between_fact _ _ _ (all_at plan.years _ k l (all_at plan.instruments _ j h e)))) k) j
 
   outflow_each : outflows_ok (numbers plan) ≡ true → (k : ℕ) → Within most ((numbers plan).o k)
-  unfolding outflows_held
-  outflow_each e = entry_each _ _ _ (Within most) (omega whole) (λ k l. between_fact _ _ _ (all_at plan.years _ k l (outflows_ok_law plan ∙ e)))
+  unfolding outflows_ok outflows_held
+  outflow_each e = entry_each _ _ _ (Within most) (omega whole) (λ k l. rw (← outflow_is plan k l) (between_fact _ _ _ (all_at plan.years _ k l e)))
 
   -- amounts of which all n are held or none
   held_each : (is_held : Bool) (n : ℕ) (f : ℕ → ℤ) → all n (λ k. is_between (pos 0) (pos most) (entry (pos 0) (pick is_held n 0) f (1 + k))) ≡ true
@@ -206,11 +247,11 @@ module _ (plan : Plan) where
 
   opening_each : opening_ok (numbers plan) ≡ true → (k : ℕ) → Between (pos 0) (pos most) ((numbers plan).b k)
   unfolding opening_ok opening_held
-  opening_each = held_each plan.opened plan.years _
+  opening_each = held_each (is_some plan.opening) plan.years _
 
   cost_each : cost_ok (numbers plan) ≡ true → (j : ℕ) → Between (pos 0) (pos most) ((numbers plan).cost j)
   unfolding cost_ok cost_held
-  cost_each = held_each plan.costed plan.instruments _
+  cost_each = held_each (is_some plan.cost) plan.instruments _
 
   rate_each : rates_ok (numbers plan) ≡ true → (t l : ℕ) → Between (pos 0) (pos top) ((numbers plan).i t l)
   unfolding rates_ok rates_fit
@@ -227,6 +268,17 @@ module _ (plan : Plan) where
       pattern_each plan (λ i. (1 ≤ until_of i) × (until_of i ≤ 30)) (omega arith, omega arith)
       (λ t h. let f = all_at plan.patterns _ t h e in
       rw (← ap until_of (pattern_is plan t h)) (from_low 1 30 ((numbers plan).T (1 + t)) f, from_high 1 30 ((numbers plan).T (1 + t)) f))
+
+-- a head that passed
+head_ok_yes : {P : Numbers} → Head P → head_ok P ≡ true
+unfolding head_ok
+head_ok_yes {P} h =
+    rw (from_yes 1 30 P.years h.years_some h.years_few, from_yes 1 16 P.instruments h.instruments_some h.instruments_few, from_yes 1 30 P.terms h.terms_some h.terms_few, from_yes 1 64 P.patterns h.patterns_some h.patterns_few)
+
+-- what is left to check then
+pub after_head : {P : Numbers} → Head P → (lists : ℕ) → refusal_with P lists ≡ first_of (amounts_refusal P) (first_of (rates_refusal P) (first_of lists (allocation_refusal P)))
+unfolding refusal_with head_refusal
+after_head h lists = rw (head_ok_yes h)
 
 -- what each part of the refusal says where it is none
 pub head_passed : (P : Numbers) → head_refusal P ≡ 0 → Head P
@@ -273,12 +325,6 @@ plan_passes P lists e = rw (lists_pass P lists e) at e
 
 -- and what has all that is not refused
 module _ {P : Numbers} (ok : Accepted P) where
-  head_passes : head_ok P ≡ true
-  unfolding head_ok
-  head_passes =
-      let h = ok.head in
-      rw (from_yes 1 30 P.years h.years_some h.years_few, from_yes 1 16 P.instruments h.instruments_some h.instruments_few, from_yes 1 30 P.terms h.terms_some h.terms_few, from_yes 1 64 P.patterns h.patterns_some h.patterns_few)
-
   payments_pass : payments_ok P ≡ true
   unfolding payments_ok payments_fit
   payments_pass = all_yes P.instruments _ (λ j l. all_yes P.years _ (λ k m. between_yes _ _ _ (ok.payments (1 + k) (1 + j))))
@@ -305,4 +351,4 @@ module _ {P : Numbers} (ok : Accepted P) where
 
   pub accepted_none : refusal_of P ≡ 0
   unfolding refusal_of head_refusal amounts_refusal rates_refusal allocation_refusal amounts_ok rollover_ok allocation_ok
-  accepted_none = rw (head_passes, payments_pass, outflows_pass, opening_pass, cost_pass, eq-eqb _ _ ok.rollover, untils_pass, rates_pass, eq-eqb _ _ ok.allocation)
+  accepted_none = rw (head_ok_yes ok.head, payments_pass, outflows_pass, opening_pass, cost_pass, eq-eqb _ _ ok.rollover, untils_pass, rates_pass, eq-eqb _ _ ok.allocation)

@@ -1,6 +1,8 @@
 -- Where what a plan holds stands in its arrays, and that the plan of what is held holds just that.
 use mathlib.Core.Path.{◌≡◌, refl, sym, ap, ◌∙◌, fun_ext}
 use mathlib.Core.Bool.{Bool, true, false}
+use mathlib.Core.List.{List, []}
+use Rattle.std.specs.Prelude.{Option, Some, None, is_some}
 use Prim.Native.Nat.{ℕ, ◌+◌, ◌-◌, ◌≤◌, ◌<◌}
 use native.Mathlib.Omega.{arith}
 use lib.IntN.{ℤ, pos}
@@ -10,8 +12,9 @@ use Rattle.whole.specs.Entry.{entry}
 use Rattle.whole.specs.Table.{table}
 use Rattle.whole.proofs.Entry.{entry_at, entry_zero, entry_beyond, entry_empty, entry_each, entry_cong, entry_own, entry_none}
 use Rattle.whole.proofs.Table.{table_at}
-use Rattle.whole.proofs.Test.{pick_few, pick_none_few, pick_again}
+use Rattle.whole.proofs.Test.{pick_few}
 use Rattle.plan.specs.declared.Pattern.{Pattern}
+use Rattle.plan.specs.declared.Pattern.TheVariants.{Rates, Slope}
 use Rattle.plan.specs.declared.Plan.{Plan}
 use Rattle.plan.specs.Held.{
   HeldInstrument,
@@ -23,7 +26,13 @@ use Rattle.plan.specs.Held.{
   unheld_instrument,
   unheld_pattern,
   instrument_held,
+  is_slope,
+  row_rates,
+  row_start,
+  row_step,
+  row_until,
   pattern_held,
+  amounts_in,
   shape_of,
   instrument_at,
   pattern_at,
@@ -41,17 +50,24 @@ use Rattle.plan.specs.Held.{
   pattern_from,
   plan_from,
 }
-use Rattle.plan.specs.Numbers.{rate_in, rate_of, until_of, numbers}
+use Rattle.plan.specs.Numbers.{slope, rate_in, rate_of, until_of, numbers}
 use Rattle.plan.specs.Refusal.{Head}
 
--- amounts of which all n are held or none: where all are, each is the amount, else it is 0
-pub held_at : (is_held : Bool) (n : ℕ) (f : ℕ → ℤ) (k : ℕ) → k < n → entry (pos 0) (pick is_held n 0) f (1 + k) ≡ pick is_held (f k) (pos 0)
-held_at true n f k h = entry_at (pos 0) n f k h
-held_at false n f k h = entry_empty (pos 0) f (1 + k)
+-- amounts of which all n are held or none: each is the amount, which is 0 where none is held
+pub held_at : (kind : Option (List ℤ)) (n k : ℕ) → k < n
+    → entry (pos 0) (pick (is_some kind) n 0) (λ k. get_or (amounts_in kind) k (pos 0)) (1 + k) ≡ get_or (amounts_in kind) k (pos 0)
+held_at (Some amounts) n k h = entry_at (pos 0) n (λ k. get_or amounts k (pos 0)) k h
+held_at None n k h = entry_empty (pos 0) (λ k. get_or [] k (pos 0)) (1 + k)
 
 -- the rate of a pattern in year 2 + l
 pub rate_at : (N : ℕ) (i : HeldPattern) (l : ℕ) → l < N - 1 → rate_of N i (2 + l) ≡ rate_in i l
 rate_at N i l h = let e : 2 + l - 1 ≡ 1 + l = omega arith in rw e (entry_at (pos 0) (N - 1) (rate_in i) l h)
+
+-- as its row has it
+pub rate_row : (N : ℕ) (row : Pattern) (l : ℕ) → l < N - 1
+    → rate_in (pattern_held N row) l ≡ pick (is_slope row) (slope (row_start row) (row_step row) (row_until row) (2 + l)) (get_or (row_rates row) l (pos 0))
+rate_row N (Rates rates) l h = entry_at (pos 0) (N - 1) (λ l. get_or rates l (pos 0)) l h
+rate_row N (Slope start step until) l h = refl
 
 -- ---- where it stands
 module _ (plan : Plan) where
@@ -83,16 +99,16 @@ module _ (plan : Plan) where
   pub rate_is : (t l : ℕ) → t < plan.patterns → l < plan.years - 1 → (numbers plan).i (1 + t) (2 + l) ≡ rate_in (pattern_held plan.years (pattern_at plan t)) l
   rate_is t l h k = rate_at plan.years ((held plan).pattern (1 + t)) l k ∙ ap (λ (i : HeldPattern). rate_in i l) (pattern_is t h)
 
-  pub until_is : (t : ℕ) → t < plan.patterns → (numbers plan).T (1 + t) ≡ pick (pattern_at plan t).sloped (pattern_at plan t).until 1
-  until_is t h = ap until_of (pattern_is t h) ∙ pick_again (pattern_at plan t).sloped _ 0 1
+  pub until_is : (t : ℕ) → t < plan.patterns → (numbers plan).T (1 + t) ≡ pick (is_slope (pattern_at plan t)) (row_until (pattern_at plan t)) 1
+  until_is t h = ap until_of (pattern_is t h)
 
-  pub opening_is : (k : ℕ) → k < plan.years → (numbers plan).b (1 + k) ≡ pick plan.opened (get_or plan.opening k (pos 0)) (pos 0)
+  pub opening_is : (k : ℕ) → k < plan.years → (numbers plan).b (1 + k) ≡ get_or (amounts_in plan.opening) k (pos 0)
   unfolding opening_held
-  opening_is = held_at plan.opened plan.years (λ k. get_or plan.opening k (pos 0))
+  opening_is = held_at plan.opening plan.years
 
-  pub cost_is : (j : ℕ) → j < plan.instruments → (numbers plan).cost (1 + j) ≡ pick plan.costed (get_or plan.cost j (pos 0)) (pos 0)
+  pub cost_is : (j : ℕ) → j < plan.instruments → (numbers plan).cost (1 + j) ≡ get_or (amounts_in plan.cost) j (pos 0)
   unfolding cost_held
-  cost_is = held_at plan.costed plan.instruments (λ j. get_or plan.cost j (pos 0))
+  cost_is = held_at plan.cost plan.instruments
 
   -- ---- and where nothing does
   -- what holds of nothing and of every row of the plan holds at every index
@@ -107,14 +123,14 @@ module _ (plan : Plan) where
   pattern_each Q none some = entry_each unheld_pattern plan.patterns _ Q none some
 
   -- money already invested that is not held pays nothing
-  pub opening_none : plan.opened ≡ false → (k : ℕ) → (numbers plan).b k ≡ pos 0
+  pub opening_none : is_some plan.opening ≡ false → (k : ℕ) → (numbers plan).b k ≡ pos 0
   unfolding opening_held
-  opening_none e = rw e (entry_empty (pos 0) (λ k. get_or plan.opening k (pos 0)))
+  opening_none e = rw e (entry_empty (pos 0) (λ k. get_or (amounts_in plan.opening) k (pos 0)))
 
   -- a cost that is not held is none
-  pub cost_none : plan.costed ≡ false → (j : ℕ) → (numbers plan).cost j ≡ pos 0
+  pub cost_none : is_some plan.cost ≡ false → (j : ℕ) → (numbers plan).cost j ≡ pos 0
   unfolding cost_held
-  cost_none e = rw e (entry_empty (pos 0) (λ j. get_or plan.cost j (pos 0)))
+  cost_none e = rw e (entry_empty (pos 0) (λ j. get_or (amounts_in plan.cost) j (pos 0)))
 
   -- in year 0 nothing is paid and nothing goes out, nor past the last year
   pub payment_before : (j : ℕ) → (numbers plan).a 0 j ≡ pos 0
@@ -137,12 +153,12 @@ module _ (plan : Plan) where
 
   pub opening_past : (k : ℕ) → plan.years < k → (numbers plan).b k ≡ pos 0
   unfolding opening_held
-  opening_past k h = entry_beyond (pos 0) (openings (shape_of plan)) _ k (omega (arith, h, pick_few plan.opened plan.years))
+  opening_past k h = entry_beyond (pos 0) (openings (shape_of plan)) _ k (omega (arith, h, pick_few (is_some plan.opening) plan.years))
 
   -- there is no cost past the last instrument
   pub cost_past : (j : ℕ) → plan.instruments < j → (numbers plan).cost j ≡ pos 0
   unfolding cost_held
-  cost_past j h = entry_beyond (pos 0) (costs (shape_of plan)) _ j (omega (arith, h, pick_few plan.costed plan.instruments))
+  cost_past j h = entry_beyond (pos 0) (costs (shape_of plan)) _ j (omega (arith, h, pick_few (is_some plan.cost) plan.instruments))
 
   -- no share is rolled over before the first term, nor past the last
   pub rollover_before : (numbers plan).r 0 ≡ 0
@@ -173,12 +189,8 @@ until_small {i = i} tidy few = go i.sloped i.until tidy.until few
     go false n e h = omega arith
 
 tidy_row : (N : ℕ) (row : Pattern) → TidyPattern N (pattern_held N row)
-tidy_row N row = record {
-  rate = entry_own (pos 0) (rates_listed N row.sloped) _;
-  start = sym (pick_again row.sloped _ (pos 0) (pos 0));
-  step = sym (pick_again row.sloped _ (pos 0) (pos 0));
-  until = sym (pick_again row.sloped _ 0 0);
-}
+tidy_row N (Rates rates) = record { rate = entry_own (pos 0) (N - 1) _; start = refl; step = refl; until = refl }
+tidy_row N (Slope start step until) = record { rate = entry_own (pos 0) 0 _; start = refl; step = refl; until = refl }
 
 -- what is held lies within N, n, q and m, and these within the arrays
 pub record Tidy (H : Held) : Type 0 where
@@ -215,14 +227,33 @@ tidy_held plan h = record {
   cost = entry_own (pos 0) (costs (shape_of plan)) _;
 }
 
+-- amounts that are held or not are so, and those that are held are an array that is filled with f
+kind_some : (is_held : Bool) (amounts : List ℤ) → is_some (pick is_held (Some amounts) None) ≡ is_held
+kind_some true amounts = refl
+kind_some false amounts = refl
+
 -- the first n of an array that is filled with f are those of f
 entry_table : {A : Type 0} (z d e : A) (m n : ℕ) (f : ℕ → A) → n ≤ m → entry z n (λ k. get_or (table m n f d) k e) ≡ entry z n f
 entry_table z d e m n f few = fun_ext (entry_cong z n _ f (λ k l. table_at m n f d e k l few))
 
+kind_from : (is_held : Bool) (m n : ℕ) (f : ℕ → ℤ) → n ≤ m
+    → (let kind = pick is_held (Some (table m n f (pos 0))) None in entry (pos 0) (pick (is_some kind) n 0) (λ k. get_or (amounts_in kind) k (pos 0)))
+    ≡ entry (pos 0) (pick is_held n 0) f
+kind_from true m n f few = entry_table (pos 0) (pos 0) (pos 0) m n f few
+kind_from false m n f few = fun_ext (λ k. entry_empty (pos 0) (λ k. get_or [] k (pos 0)) k ∙ sym (entry_empty (pos 0) f k))
+
 pattern_from_law : (N : ℕ) (i : HeldPattern) → N ≤ 30 → TidyPattern N i → pattern_held N (pattern_from N i) ≡ i
-pattern_from_law N i few tidy =
-    let listed : rates_listed N i.sloped ≤ 30 = omega (arith, few, pick_none_few i.sloped (N - 1)) in
-    rw (entry_table (pos 0) (pos 0) (pos 0) 30 (rates_listed N i.sloped) (λ l. i.rate (1 + l)) listed, ← tidy.rate, ← tidy.start, ← tidy.step, ← tidy.until)
+pattern_from_law N i few tidy = go i.sloped i.rate i.start i.step i.until tidy
+  where
+    go : (sloped : Bool) (rate : ℕ → ℤ) (start step : ℤ) (until : ℕ)
+        → (let i : HeldPattern = record { sloped = sloped; rate = rate; start = start; step = step; until = until } in TidyPattern N i → pattern_held N (pattern_from N i) ≡ i)
+    go true rate start step until tidy =
+        let none = λ (k : ℕ). entry_empty (pos 0) (λ l. get_or [] l (pos 0)) k ∙ sym (entry_empty (pos 0) (λ l. rate (1 + l)) k) in
+        ap (λ (f : ℕ → ℤ). record { sloped = true; rate = f; start = start; step = step; until = until }) (fun_ext none ∙ sym tidy.rate)
+    go false rate start step until tidy =
+        rw (tidy.start, tidy.step, tidy.until)
+        (ap (λ (f : ℕ → ℤ). record { sloped = false; rate = f; start = pos 0; step = pos 0; until = 0 })
+        (entry_table (pos 0) (pos 0) (pos 0) 30 (N - 1) (λ l. rate (1 + l)) (omega arith) ∙ sym tidy.rate))
 
 module _ (H : Held) (tidy : Tidy H) where
   same_instruments : instruments_held (plan_from H) ≡ H.instrument
@@ -255,16 +286,16 @@ module _ (H : Held) (tidy : Tidy H) where
 
   same_opening : opening_held (plan_from H) ≡ H.opening
   unfolding opening_held plan_from
-  same_opening =
-      let few : openings H.shape ≤ 30 = omega (arith, pick_few H.shape.opened H.shape.years, tidy.years_few) in
-      entry_table (pos 0) (pos 0) (pos 0) 30 (openings H.shape) _ few ∙ sym tidy.opening
+  same_opening = kind_from H.shape.opened 30 H.shape.years (λ k. H.opening (1 + k)) tidy.years_few ∙ sym tidy.opening
 
   same_cost : cost_held (plan_from H) ≡ H.cost
   unfolding cost_held plan_from
-  same_cost =
-      let few : costs H.shape ≤ 16 = omega (arith, pick_few H.shape.costed H.shape.instruments, tidy.instruments_few) in
-      entry_table (pos 0) (pos 0) (pos 0) 16 (costs H.shape) _ few ∙ sym tidy.cost
+  same_cost = kind_from H.shape.costed 16 H.shape.instruments (λ j. H.cost (1 + j)) tidy.instruments_few ∙ sym tidy.cost
+
+  same_shape : shape_of (plan_from H) ≡ H.shape
+  unfolding plan_from
+  same_shape = rw (kind_some H.shape.opened (table 30 H.shape.years (λ k. H.opening (1 + k)) (pos 0)), kind_some H.shape.costed (table 16 H.shape.instruments (λ j. H.cost (1 + j)) (pos 0)))
 
   pub held_from : held (plan_from H) ≡ H
   unfolding plan_from
-  held_from = rw (same_instruments, same_outflows, same_rollover, same_patterns, same_allocation, same_opening, same_cost)
+  held_from = rw (same_shape, same_instruments, same_outflows, same_rollover, same_patterns, same_allocation, same_opening, same_cost)

@@ -1,17 +1,23 @@
 -- The plans of the worked cases: L and its neighbours, the plans of one year, those of four with one pattern, those of three with a slope and
 -- a list, those of fourteen that come near the limit, and those of six at several rollovers.
-use Rattle.std.specs.Prelude.{Bool, true, false, List, [], ◌∷◌, ◌++◌, ℕ, ◌-◌, replicate, ℤ, pos}
+use Rattle.std.specs.Prelude.{Bool, false, List, [], ◌∷◌, ◌++◌, ℕ, ◌-◌, replicate, ℤ, pos, Option, Some, None}
+use Rattle.whole.specs.Test.{pick}
 use Rattle.plan.specs.declared.Instrument.{Instrument}
 use Rattle.plan.specs.declared.Pattern.{Pattern}
+use Rattle.plan.specs.declared.Pattern.TheVariants.{Rates, Slope}
 use Rattle.plan.specs.declared.Plan.{Plan}
 use Rattle.plan.specs.Held.{no_instrument, no_pattern}
 
 -- a pattern that lists these rates, and one that is a slope
 abbrev pub listed : List ℤ → Pattern
-listed rates = record { rates = rates; sloped = false; start = pos 0; step = pos 0; until = 0; spare = 0 }
+listed = Rates
 
 abbrev pub stepped : (start step : ℤ) (until : ℕ) → Pattern
-stepped start step until = record { rates = replicate 30 (pos 0); sloped = true; start = start; step = step; until = until; spare = 0 }
+stepped = Slope
+
+-- amounts that are held or not
+abbrev kept : Bool → List ℤ → Option (List ℤ)
+kept is_held amounts = pick is_held (Some amounts) None
 
 -- L, but for the share that is rolled over in the first term and the rate of the first pattern
 unfoldable pub near_L : (share : ℕ) (rate : ℤ) → Plan
@@ -28,10 +34,8 @@ near_L share rate = record {
   rollover = share ∷ replicate 29 0;
   pattern = listed (rate ∷ replicate 29 (pos 0)) ∷ listed (pos 90_000 ∷ replicate 29 (pos 0)) ∷ replicate 62 no_pattern;
   allocation = 500_000 ∷ 500_000 ∷ replicate 14 0;
-  opened = false;
-  opening = replicate 30 (pos 0);
-  costed = false;
-  cost = replicate 16 (pos 0);
+  opening = None;
+  cost = None;
 }
 
 unfoldable pub plan_L : Plan
@@ -49,10 +53,8 @@ renewed outflow opened money = record {
   rollover = 1_000_000 ∷ replicate 29 0;
   pattern = replicate 64 no_pattern;
   allocation = 1_000_000 ∷ replicate 15 0;
-  opened = opened;
-  opening = money ∷ replicate 29 (pos 0);
-  costed = false;
-  cost = replicate 16 (pos 0);
+  opening = kept opened (money ∷ replicate 29 (pos 0));
+  cost = None;
 }
 
 -- without such money
@@ -73,10 +75,8 @@ longer outflow costed first second =
       rollover = 1_000_000 ∷ replicate 29 0;
       pattern = replicate 64 no_pattern;
       allocation = 500_000 ∷ 500_000 ∷ replicate 14 0;
-      opened = false;
-      opening = replicate 30 (pos 0);
-      costed = costed;
-      cost = first ∷ second ∷ replicate 14 (pos 0);
+      opening = None;
+      cost = kept costed (first ∷ second ∷ replicate 14 (pos 0));
     }
 
 -- fourteen years at 20 percent, in which nothing that is invested matures: a note that pays nothing, an outflow in each of thirteen years and
@@ -92,10 +92,8 @@ far_out outflow last costed cost = record {
   rollover = replicate 29 0 ++ (1_000_000 ∷ []);
   pattern = listed (replicate 30 (pos 200_000)) ∷ replicate 63 no_pattern;
   allocation = 1_000_000 ∷ replicate 15 0;
-  opened = false;
-  opening = replicate 30 (pos 0);
-  costed = costed;
-  cost = cost ∷ replicate 15 (pos 0);
+  opening = None;
+  cost = kept costed (cost ∷ replicate 15 (pos 0));
 }
 
 -- four years, 1000000000 in the first, all of it rolled over every year, and this pattern
@@ -110,14 +108,11 @@ four_years row = record {
   rollover = 1_000_000 ∷ replicate 29 0;
   pattern = row ∷ replicate 63 no_pattern;
   allocation = 1_000_000 ∷ replicate 15 0;
-  opened = false;
-  opening = replicate 30 (pos 0);
-  costed = false;
-  cost = replicate 16 (pos 0);
+  opening = None;
+  cost = None;
 }
 
--- three years, one payment of 1080000000, and two patterns: a slope, and a list of 60000 and 90000; and what each of the two carries for
--- the kind that it does not hold
+-- three years, one payment of 1080000000, and two patterns: a slope, and a list of 60000 and 90000; and what stands past them
 unfoldable pub sloping : (start step : ℤ) (until other : ℕ) → Plan
 sloping start step until other = record {
   years = 3;
@@ -128,14 +123,12 @@ sloping start step until other = record {
   outflows = replicate 30 (pos 0);
   rollover = 1_000_000 ∷ replicate 29 0;
   pattern =
-      record { rates = replicate 30 (pos other); sloped = true; start = start; step = step; until = until; spare = 0 }
-      ∷ record { rates = pos 60_000 ∷ pos 90_000 ∷ replicate 28 (pos 0); sloped = false; start = pos other; step = pos other; until = other; spare = other }
+      stepped start step until
+      ∷ listed (pos 60_000 ∷ pos 90_000 ∷ replicate 28 (pos other))
       ∷ replicate 62 no_pattern;
   allocation = 1_000_000 ∷ replicate 15 0;
-  opened = false;
-  opening = replicate 30 (pos 0);
-  costed = false;
-  cost = replicate 16 (pos 0);
+  opening = None;
+  cost = None;
 }
 
 -- six years, a note of three and one of six, half in either, bills that rise by 4 percent a year, a level pattern of 50000, one that rises from
@@ -153,8 +146,6 @@ six_years terms shares costed cost = record {
   rollover = shares ++ replicate (30 - terms) 0;
   pattern = listed (replicate 5 (pos 50_000) ++ replicate 25 (pos 0)) ∷ stepped (pos 50_000) (pos 5_000) 4 ∷ replicate 62 no_pattern;
   allocation = 500_000 ∷ 500_000 ∷ replicate 14 0;
-  opened = false;
-  opening = replicate 30 (pos 0);
-  costed = costed;
-  cost = cost ∷ cost ∷ replicate 14 (pos 0);
+  opening = None;
+  cost = kept costed (cost ∷ cost ∷ replicate 14 (pos 0));
 }

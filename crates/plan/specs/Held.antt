@@ -1,7 +1,7 @@
 -- What a plan or a file holds, as it was typed: numbers by document 01's indices, each 0 outside N, n, q and m, and 0 for a kind that is
 -- not held. `held` says it of a plan held as values; what an array has past these counts, or for a kind that is not held, plays no part.
 -- `plan_from` is the plan that holds just this, with zeros elsewhere.
-use Rattle.std.specs.Prelude.{◌≡◌, Bool, false, [], ℕ, ◌+◌, ◌-◌, ◌<◌, get_or, replicate, ℤ, pos, negsuc}
+use Rattle.std.specs.Prelude.{◌≡◌, Bool, true, false, List, [], ℕ, ◌+◌, ◌-◌, ◌<◌, get_or, replicate, ℤ, pos, negsuc, Option, Some, None, is_some}
 use Rattle.whole.specs.Range.{Between}
 use Rattle.whole.specs.Test.{pick}
 use Rattle.whole.specs.Entry.{entry}
@@ -9,6 +9,7 @@ use Rattle.whole.specs.Table.{table}
 use Rattle.plan.specs.declared.Shape.{Shape}
 use Rattle.plan.specs.declared.Instrument.{Instrument}
 use Rattle.plan.specs.declared.Pattern.{Pattern}
+use Rattle.plan.specs.declared.Pattern.TheVariants.{Rates, Slope}
 use Rattle.plan.specs.declared.Plan.{Plan}
 
 -- an instrument: what it pays in year k
@@ -68,18 +69,45 @@ unheld_pattern = record { sloped = false; rate = λ l. pos 0; start = pos 0; ste
 abbrev pub instrument_held : (N : ℕ) → Instrument → HeldInstrument
 instrument_held N row = record { payment = entry (pos 0) N (λ k. get_or row.payments k (pos 0)) }
 
+-- what a pattern carries of either kind: the rates that it lists, none where it is a slope, and the start, the step and T of a slope,
+-- each 0 where it is none
+abbrev pub is_slope : Pattern → Bool
+is_slope (Rates rates) = false
+is_slope (Slope start step until) = true
+
+abbrev pub row_rates : Pattern → List ℤ
+row_rates (Rates rates) = rates
+row_rates (Slope start step until) = []
+
+abbrev pub row_start : Pattern → ℤ
+row_start (Rates rates) = pos 0
+row_start (Slope start step until) = start
+
+abbrev pub row_step : Pattern → ℤ
+row_step (Rates rates) = pos 0
+row_step (Slope start step until) = step
+
+abbrev pub row_until : Pattern → ℕ
+row_until (Rates rates) = 0
+row_until (Slope start step until) = until
+
 abbrev pub pattern_held : (N : ℕ) → Pattern → HeldPattern
 pattern_held N row = record {
-  sloped = row.sloped;
-  rate = entry (pos 0) (rates_listed N row.sloped) (λ l. get_or row.rates l (pos 0));
-  start = pick row.sloped row.start (pos 0);
-  step = pick row.sloped row.step (pos 0);
-  until = pick row.sloped row.until 0;
+  sloped = is_slope row;
+  rate = entry (pos 0) (rates_listed N (is_slope row)) (λ l. get_or (row_rates row) l (pos 0));
+  start = row_start row;
+  step = row_step row;
+  until = row_until row;
 }
 
 -- what is read past the end of an array of patterns
 abbrev pub missing_pattern : Pattern
-missing_pattern = record { rates = []; sloped = false; start = pos 0; step = pos 0; until = 0; spare = 0 }
+missing_pattern = Rates []
+
+-- the amounts of a kind, none where it is not held
+abbrev pub amounts_in : Option (List ℤ) → List ℤ
+amounts_in None = []
+amounts_in (Some amounts) = amounts
 
 module _ (plan : Plan) where
   abbrev pub shape_of : Shape
@@ -88,8 +116,8 @@ module _ (plan : Plan) where
     instruments = plan.instruments;
     terms = plan.terms;
     patterns = plan.patterns;
-    opened = plan.opened;
-    costed = plan.costed;
+    opened = is_some plan.opening;
+    costed = is_some plan.cost;
   }
 
   -- row j of the instruments and row t of the patterns, counted from 0
@@ -115,10 +143,10 @@ module _ (plan : Plan) where
   allocation_held = entry 0 plan.instruments (λ j. get_or plan.allocation j 0)
 
   unfoldable pub opening_held : (k : ℕ) → ℤ
-  opening_held = entry (pos 0) (openings shape_of) (λ k. get_or plan.opening k (pos 0))
+  opening_held = entry (pos 0) (openings shape_of) (λ k. get_or (amounts_in plan.opening) k (pos 0))
 
   unfoldable pub cost_held : (j : ℕ) → ℤ
-  cost_held = entry (pos 0) (costs shape_of) (λ j. get_or plan.cost j (pos 0))
+  cost_held = entry (pos 0) (costs shape_of) (λ j. get_or (amounts_in plan.cost) j (pos 0))
 
   abbrev pub held : Held
   held = record {
@@ -134,8 +162,8 @@ module _ (plan : Plan) where
 
 -- a pattern's types say that a start and a step have 32 bits; no check does
 pub record SlopeTyped (row : Pattern) : Type 0 where
-  pub start : Between (negsuc 2_147_483_647) (pos 2_147_483_647) row.start
-  pub step : Between (negsuc 2_147_483_647) (pos 2_147_483_647) row.step
+  pub start : Between (negsuc 2_147_483_647) (pos 2_147_483_647) (row_start row)
+  pub step : Between (negsuc 2_147_483_647) (pos 2_147_483_647) (row_step row)
 
 -- those of a plan's patterns
 abbrev pub Typed : Plan → Type 0
@@ -147,7 +175,7 @@ abbrev pub no_instrument : Instrument
 no_instrument = record { payments = replicate 30 (pos 0) }
 
 abbrev pub no_pattern : Pattern
-no_pattern = record { rates = replicate 30 (pos 0); sloped = false; start = pos 0; step = pos 0; until = 0; spare = 0 }
+no_pattern = Rates (replicate 30 (pos 0))
 
 abbrev pub no_plan : Plan
 no_plan = record {
@@ -160,10 +188,8 @@ no_plan = record {
   rollover = replicate 30 0;
   pattern = replicate 64 no_pattern;
   allocation = replicate 16 0;
-  opened = false;
-  opening = replicate 30 (pos 0);
-  costed = false;
-  cost = replicate 16 (pos 0);
+  opening = None;
+  cost = None;
 }
 
 -- one row of it
@@ -171,14 +197,7 @@ abbrev pub instrument_from : (N : ℕ) → HeldInstrument → Instrument
 instrument_from N a = record { payments = table 30 N (λ k. a.payment (1 + k)) (pos 0) }
 
 abbrev pub pattern_from : (N : ℕ) → HeldPattern → Pattern
-pattern_from N i = record {
-  rates = table 30 (rates_listed N i.sloped) (λ l. i.rate (1 + l)) (pos 0);
-  sloped = i.sloped;
-  start = i.start;
-  step = i.step;
-  until = i.until;
-  spare = 0;
-}
+pattern_from N i = pick i.sloped (Slope i.start i.step i.until) (Rates (table 30 (N - 1) (λ l. i.rate (1 + l)) (pos 0)))
 
 unfoldable pub plan_from : Held → Plan
 plan_from H =
@@ -193,8 +212,6 @@ plan_from H =
       rollover = table 30 h.terms (λ d. H.rollover (1 + d)) 0;
       pattern = table 64 h.patterns (λ t. pattern_from h.years (H.pattern (1 + t))) no_pattern;
       allocation = table 16 h.instruments (λ j. H.allocation (1 + j)) 0;
-      opened = h.opened;
-      opening = table 30 (openings h) (λ k. H.opening (1 + k)) (pos 0);
-      costed = h.costed;
-      cost = table 16 (costs h) (λ j. H.cost (1 + j)) (pos 0);
+      opening = pick h.opened (Some (table 30 h.years (λ k. H.opening (1 + k)) (pos 0))) None;
+      cost = pick h.costed (Some (table 16 h.instruments (λ j. H.cost (1 + j)) (pos 0))) None;
     }

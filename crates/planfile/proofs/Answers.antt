@@ -11,7 +11,7 @@ use Rattle.plan.specs.Numbers.{Numbers, numbers, meaning}
 use Rattle.plan.specs.Refusal.{refusal_of, Accepted}
 use Rattle.plan.proofs.Held.{until_small}
 use Rattle.plan.proofs.Checks.{first_none, first_next, not_refused, answer_accepted, accepted}
-use Rattle.planfile.specs.declared.ReadAnswer.{ReadAnswer}
+use Rattle.planfile.specs.Answers.{ReadAnswer}
 use Rattle.planfile.specs.Checks.{shape_in, layout_refusal}
 use Rattle.planfile.specs.Records.{record_in, held_of, held_in, file_of}
 use Rattle.planfile.specs.Reading.{Laid}

@@ -1,23 +1,22 @@
--- What checks 3, 4 and 5 say of the records of a file s: by what the cursor finds, and what a file that passes has.
-use mathlib.Core.Path.{◌≡◌, sym, ap, ◌∙◌}
+-- What checks 3, 4 and 5 say of the records of a file s: what a file that passes has, and what passes.
+use mathlib.Core.Path.{◌≡◌, ap}
 use mathlib.Core.Bool.{Bool, true, false}
 use mathlib.Core.List.{List}
-use Prim.Native.Nat.{ℕ, ◌-◌, ◌≤◌, ◌<◌}
+use Prim.Native.Nat.{ℕ, ◌<◌}
 use native.Mathlib.Omega.{arith}
 use borrow.Author.Tests.{eqb-true, eq-eqb}
 use lib.Dec.{eqb, leb}
 use lib.ListN.{length}
 use Rattle.whole.specs.Test.{both, all}
-use Rattle.whole.proofs.Test.{both_first, both_second, all_at, all_fails, all_yes, false_true}
-use Rattle.records.specs.Cursor.{whole_at, whole_file, next_at, place, kind_at, body_at}
-use Rattle.records.specs.declared.Next.TheVariants.{Record, Stop}
-use Rattle.records.proofs.Cursor.{whole_end, next_known, next_none, none_later, kind_next, length_next, length_body, Consists}
+use Rattle.whole.proofs.Test.{both_first, both_second, all_at, all_fails, all_yes}
+use Rattle.records.specs.Cursor.{whole_at, whole_file, place, kind_at, body_at}
+use Rattle.records.proofs.Cursor.{Consists}
 use Rattle.plan.specs.declared.Shape.{Shape}
 use Rattle.plan.specs.Held.{Held}
 use Rattle.plan.specs.Numbers.{meaning}
 use Rattle.plan.specs.Refusal.{check, shape_ok, head_ok, Head}
 use Rattle.plan.proofs.Checks.{check_true, check_rest, head_is}
-use Rattle.planfile.specs.declared.Group.{Group}
+use Rattle.planfile.specs.Groups.{Group}
 use Rattle.planfile.specs.Kinds.{role_of, size_of}
 use Rattle.planfile.specs.Groups.{groups_of, total, spot_at, none}
 use Rattle.planfile.specs.Checks.{shape_in, has_role, first_ok, role_ok, roles_ok, size_ok, sizes_ok, layout_refusal}
@@ -39,15 +38,6 @@ unfolding shape_ok head_ok held_of
 shape_range h e = let H = held_of h (λ role j. none) in head_range H (head_is (meaning H) e)
 
 module _ (s : List ℕ) where
-  -- by what the cursor finds
-  pub first_found : (k a e : ℕ) → next_at s 0 ≡ Record k a e → first_ok s ≡ both (eqb k 1) (both (eqb (e - a) 4) (shape_ok (shape_in s)))
-  unfolding first_ok place
-  first_found k a e n = rw ((next_known s 0 k a e n).whole, ← kind_next s 0 k a e n, ← length_next s 0 k a e n)
-
-  pub first_missing : (l : ℕ) → next_at s 0 ≡ Stop l → first_ok s ≡ false
-  unfolding first_ok
-  first_missing l n = rw (next_none s 0 l n).0
-
   -- what a file that passes has
   module _ (e : first_ok s ≡ true) where
     body_passed : both (eqb (length (body_at s 0)) 4) (shape_ok (shape_in s)) ≡ true
@@ -57,48 +47,18 @@ module _ (s : List ℕ) where
     pub first_shape : shape_ok (shape_in s) ≡ true
     first_shape = both_second (eqb (length (body_at s 0)) 4) _ body_passed
 
-    pub first_long : 8 ≤ length s
-    unfolding first_ok place
-    first_long =
-        let w : whole_at s 0 ≡ true = both_first _ _ e in
-        let four = eqb-true (length (body_at s 0)) 4 (both_first _ _ body_passed) in
-        omega (arith, whole_end s 0 w, length_body s 0 w)
-
--- ---- the role of record t, by what the cursor finds
+-- ---- the role of record t
 module _ (s : List ℕ) (t role : ℕ) where
-  pub has_found : (k a e : ℕ) → next_at s (place s t) ≡ Record k a e → has_role s t role ≡ eqb (role_of k) role
-  unfolding has_role
-  has_found k a e n = rw ((next_known s (place s t) k a e n).whole, ← kind_next s t k a e n)
-
   -- no record is whole there
   pub has_none : whole_at s (place s t) ≡ false → has_role s t role ≡ false
   unfolding has_role
   has_none w = rw w
 
-  -- the cursor stops there, or at an earlier record
-  pub has_missing : (u l : ℕ) → u ≤ t → next_at s (place s u) ≡ Stop l → has_role s t role ≡ false
-  has_missing u l h n = has_none (none_later s u t h (next_none s (place s u) l n).0)
-
 -- ---- check 4
 module _ (s : List ℕ) (gs : List Group) where
-  -- record t by what the cursor finds
-  module _ (t : ℕ) where
-    pub role_found : (k a e : ℕ) → next_at s (place s t) ≡ Record k a e → role_ok s gs t ≡ eqb (role_of k) (spot_at gs t).role
-    unfolding role_ok
-    role_found = has_found s t (spot_at gs t).role
-
-    pub role_missing : (l : ℕ) → next_at s (place s t) ≡ Stop l → role_ok s gs t ≡ false
-    unfolding role_ok
-    role_missing l = has_missing s t (spot_at gs t).role t l (omega arith)
-
-    pub roles_fail : t < total gs → role_ok s gs t ≡ false → roles_ok s gs ≡ false
-    unfolding roles_ok
-    roles_fail l e = ap (λ (b : Bool). both b (eqb (place s (total gs)) (length s))) (all_fails _ _ t l e)
-
-  -- all of them found, and the place after the last
-  pub roles_end : (t at : ℕ) → t ≡ total gs → at ≡ place s t → all t (role_ok s gs) ≡ true → eqb at (length s) ≡ roles_ok s gs
+  pub roles_fail : (t : ℕ) → t < total gs → role_ok s gs t ≡ false → roles_ok s gs ≡ false
   unfolding roles_ok
-  roles_end t at i e a = rw (← i, a, e)
+  roles_fail t l e = ap (λ (b : Bool). both b (eqb (place s (total gs)) (length s))) (all_fails _ _ t l e)
 
   -- what a file that passes has
   module _ (e : roles_ok s gs ≡ true) where
@@ -117,9 +77,6 @@ module _ (s : List ℕ) (gs : List Group) where
     unfolding has_role
     role_there t l = eqb-true _ _ (both_second (whole_at s (place s t)) _ (passed t l))
 
-    pub none_missing : (t l : ℕ) → t < total gs → next_at s (place s t) ≡ Stop l → ⊥
-    none_missing t l h n = false_true (sym (next_none s (place s t) l n).0 ∙ roles_consist.whole t h)
-
   -- and what passes
   pub roles_pass : ((t : ℕ) → t < total gs → has_role s t (spot_at gs t).role ≡ true) → place s (total gs) ≡ length s → roles_ok s gs ≡ true
   unfolding roles_ok role_ok
@@ -127,11 +84,6 @@ module _ (s : List ℕ) (gs : List Group) where
 
 -- ---- check 5
 module _ (s : List ℕ) (h : Shape) where
-  -- record t by what the cursor finds
-  pub size_found : (t k a e : ℕ) → next_at s (place s t) ≡ Record k a e → size_ok s h t ≡ eqb (e - a) (size_of h k)
-  unfolding size_ok
-  size_found t k a e n = rw (← kind_next s t k a e n, ← length_next s t k a e n)
-
   -- what record t of a file that passes has
   pub size_there : sizes_ok s h ≡ true → (t : ℕ) → t < total (groups_of h) → length (body_at s t) ≡ size_of h (kind_at s t)
   unfolding sizes_ok size_ok

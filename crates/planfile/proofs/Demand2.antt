@@ -17,8 +17,8 @@ use Rattle.plan.specs.Numbers.{numbers, meaning}
 use Rattle.plan.specs.Refusal.{shape_ok, head_ok, head_refusal, refusal_of}
 use Rattle.plan.proofs.Held.{Tidy, tidy_held, held_from}
 use Rattle.plan.proofs.Checks.{check_true, first_none, first_next, not_refused, answer_accepted, accepted}
-use Rattle.planfile.specs.declared.ReadAnswer.{ReadAnswer}
-use Rattle.planfile.specs.declared.WriteAnswer.{WriteAnswer}
+use Rattle.planfile.specs.Answers.{ReadAnswer}
+use Rattle.planfile.specs.Answers.{WriteAnswer}
 use Rattle.planfile.specs.Records.{held_in, file_of}
 use Rattle.planfile.specs.Reading.{InRange}
 use Rattle.planfile.specs.Read.{read_refusal, read_answer}

@@ -9,7 +9,8 @@ use lib.ListN.{replicate}
 use Rattle.whole.specs.Entry.{nth, cut, entry}
 use Rattle.whole.specs.Sum.{sum_ℕ}
 use Rattle.whole.specs.Table.{table}
-use Rattle.whole.specs.Test.{all, is_between}
+use Rattle.std.specs.Prelude.{Some, None}
+use Rattle.whole.specs.Test.{pick, all, is_between}
 use Rattle.little_endian.specs.LittleEndian.{le_of, le_at, bytes_of}
 use Rattle.little_endian.specs.TwosComplement.{signed_of, unsigned_of}
 use Rattle.little_endian.specs.Runs.{run, number_at}
@@ -118,10 +119,8 @@ lasting opened money costed left = record {
   rollover = 1_000_000 ∷ replicate 29 0;
   pattern = listed (pos 60_000 ∷ replicate 29 (pos 0)) ∷ replicate 63 no_pattern;
   allocation = 1_000_000 ∷ replicate 15 0;
-  opened = opened;
-  opening = money ∷ money ∷ replicate 28 (pos 0);
-  costed = costed;
-  cost = left ∷ replicate 15 (pos 0);
+  opening = pick opened (Some (money ∷ money ∷ replicate 28 (pos 0))) None;
+  cost = pick costed (Some (left ∷ replicate 15 (pos 0))) None;
 }
 
 -- the two records that may be absent

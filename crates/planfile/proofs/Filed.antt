@@ -13,20 +13,20 @@ use Rattle.whole.proofs.Laws.{ℕ_cases}
 use Rattle.little_endian.specs.LittleEndian.{Bytes}
 use Rattle.records.specs.Record.{Rec, file_bytes}
 use Rattle.records.specs.Cursor.{whole_file, place, kind_at, body_at}
-use Rattle.records.proofs.Record.{Small}
+use Rattle.records.proofs.Records.{Small}
 use Rattle.records.proofs.Cursor.{whole_no, none_later, Consists, record_at, kind_written, body_written, consists_written, file_written, file_again}
 use Rattle.plan.specs.declared.Shape.{Shape}
 use Rattle.plan.specs.Held.{flag}
 use Rattle.plan.specs.Refusal.{shape_ok}
-use Rattle.planfile.specs.declared.Group.{Group}
-use Rattle.planfile.specs.declared.Spot.{Spot}
+use Rattle.planfile.specs.Groups.{Group}
+use Rattle.planfile.specs.Groups.{Spot}
 use Rattle.planfile.specs.Kinds.{role_of, size_of}
 use Rattle.planfile.specs.Groups.{groups_of, total, spot_at, count_of, place_of, none, laid}
 use Rattle.planfile.specs.Rows.{rec, head_rec}
 use Rattle.planfile.specs.Checks.{shape_in, has_role, first_ok, roles_ok, sizes_ok}
 use Rattle.planfile.specs.Records.{record_in, file_from}
 use Rattle.planfile.specs.Reading.{InRange, Laid}
-use Rattle.planfile.proofs.Kind.{kind_few, size_few}
+use Rattle.planfile.proofs.Bodies.{kind_few, size_few}
 use Rattle.planfile.proofs.Groups.{place_spot, role_some, spot_back, length_laid, laid_at, laid_place}
 use Rattle.planfile.proofs.Checks.{has_none, roles_consist, role_there, roles_pass, size_there, sizes_pass}
 

@@ -4,12 +4,14 @@ use mathlib.Core.Bool.{Bool, true, false, not}
 use mathlib.Core.Logic.{⊎_elim}
 use mathlib.Core.List.{List, [], ◌∷◌, ◌++◌}
 use Prim.Native.Nat.{ℕ, zero, suc, ◌+◌, ◌*◌, ◌-◌, ◌≤◌, ◌<◌}
+use native.Mathlib.Nat.{zero-add}
 use native.Mathlib.Numerals.{add-one}
 use native.Mathlib.Omega.{arith}
 use borrow.Author.Tests.{le-ltb, lt-ltb, eqb-true, eq-eqb, ne_eqb}
 use lib.Dec.{eqb}
 use lib.ListN.{length, get_or, drop, drop_of_length-le, length-append, get_or-append}
 use lib.Seq.{get_or-append-add, drop-cons, ext_get_or}
+use Rattle.std.specs.List.{fold, sum_by}
 use Rattle.whole.specs.Entry.{nth}
 use Rattle.whole.specs.Test.{pick, both}
 use Rattle.whole.specs.Table.{table}
@@ -19,11 +21,11 @@ use Rattle.whole.proofs.Test.{both_first, both_second, false_true, pick_few}
 use Rattle.records.specs.Record.{Rec}
 use Rattle.plan.specs.declared.Shape.{Shape}
 use Rattle.plan.specs.Held.{flag}
-use Rattle.planfile.specs.declared.Group.{Group}
-use Rattle.planfile.specs.declared.Spot.{Spot}
-use Rattle.planfile.specs.Groups.{groups_of, group_count, total, spot_at, count_of, place_of, none, laid}
+use Rattle.planfile.specs.declared.Group as group
+use Rattle.planfile.specs.Kinds.{role_number}
+use Rattle.planfile.specs.Groups.{Group, Spot, groups_of, total, spot_at, count_of, place_of, none, laid, group_shown, groups_shown}
 use Rattle.planfile.specs.Reading.{InRange}
-use Rattle.planfile.proofs.Kind.{longest}
+use Rattle.planfile.proofs.Bodies.{longest}
 
 -- ---- record t: of the first group, or past it
 module _ (g : Group) (gs : List Group) (t : ℕ) where
@@ -144,26 +146,29 @@ module _ (f : (role j : ℕ) → Rec) where
       let a = place_spot gs role j h in
       laid_at gs (place_of gs role j) a.inside ∙ ap (λ (s : Spot). f s.role s.index) a.spot
 
--- ---- by an array of groups: the rest of them from group g on
-module _ (gs : List Group) (d : Group) (g : ℕ) (h : g < length gs) where
-  pub total_rest : total (drop g gs) ≡ (get_or gs g d).count + total (drop (g + 1) gs)
-  unfolding total
-  total_rest = rw (add-one, drop-cons gs g d h)
+-- ---- by the code's array of groups: the spot of record t of those from group g on
+module _ (gs : List group.Group) (d : group.Group) (g : ℕ) (h : g < length gs) where
+  pub spot_first : (t : ℕ) → t < (get_or gs g d).count
+      → spot_at (groups_shown (drop g gs)) t ≡ record { role = role_number (get_or gs g d).role; index = t }
+  spot_first t l = rw (drop-cons gs g d h) (spot_here (group_shown (get_or gs g d)) (groups_shown (drop (suc g) gs)) t l)
 
-  pub spot_first : (t : ℕ) → t < (get_or gs g d).count → spot_at (drop g gs) t ≡ record { role = (get_or gs g d).role; index = t }
-  spot_first t l = rw (drop-cons gs g d h) (spot_here (get_or gs g d) (drop (suc g) gs) t l)
-
-  pub spot_rest : (t : ℕ) → (get_or gs g d).count ≤ t → spot_at (drop g gs) t ≡ spot_at (drop (g + 1) gs) (t - (get_or gs g d).count)
-  spot_rest t l = rw (add-one, drop-cons gs g d h) (spot_past (get_or gs g d) (drop (suc g) gs) t l)
+  pub spot_rest : (t : ℕ) → (get_or gs g d).count ≤ t
+      → spot_at (groups_shown (drop g gs)) t ≡ spot_at (groups_shown (drop (g + 1) gs)) (t - (get_or gs g d).count)
+  spot_rest t l = rw (add-one, drop-cons gs g d h) (spot_past (group_shown (get_or gs g d)) (groups_shown (drop (suc g) gs)) t l)
 
 -- none is left
-pub total_none : (gs : List Group) (g : ℕ) → length gs ≤ g → total (drop g gs) ≡ 0
-unfolding total
-total_none gs g h = rw (drop_of_length-le gs h)
-
-pub spot_none : (gs : List Group) (g t : ℕ) → length gs ≤ g → spot_at (drop g gs) t ≡ record { role = 0; index = 0 }
+pub spot_none : (gs : List group.Group) (g t : ℕ) → length gs ≤ g → spot_at (groups_shown (drop g gs)) t ≡ record { role = 0; index = 0 }
 unfolding spot_at
 spot_none gs g t h = rw (drop_of_length-le gs h)
+
+-- how many records they have
+counted : (gs : List group.Group) (n : ℕ) → fold (λ (a : ℕ) (g : group.Group). a + g.count) n gs ≡ n + total (groups_shown gs)
+unfolding total
+counted [] n = omega arith
+counted (g ∷ gs) n = omega (arith, counted gs (n + g.count))
+
+pub total_shown : (gs : List group.Group) → sum_by (λ g. g.count) gs ≡ total (groups_shown gs)
+total_shown gs = counted gs 0 ∙ zero-add (total (groups_shown gs))
 
 -- ---- the most bytes that the records of the groups take
 abbrev pub most : List Group → ℕ
@@ -171,19 +176,11 @@ most [] = 0
 most (g ∷ gs) = (4 + longest g.role) * g.count + most gs
 
 -- ---- the groups of a shape
--- a kind that may be absent has one record at most, and where it has one, all its n numbers are held
+-- a kind that may be absent has one record at most
 pub held_few : (is_held : Bool) → flag is_held ≤ 1
 held_few is_held = pick_few is_held 1
 
-pub held_all : (is_held : Bool) {j : ℕ} → j < flag is_held → (n : ℕ) → pick is_held n 0 ≡ n
-held_all true l n = refl
-held_all false l n = absurd (omega arith)
-
 module _ (h : Shape) where
-  pub length_groups : length (groups_of h) ≡ group_count
-  unfolding groups_of
-  length_groups = refl
-
   distinct_groups : distinct (groups_of h) ≡ true
   unfolding groups_of distinct lacks
   distinct_groups = refl

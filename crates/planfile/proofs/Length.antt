@@ -11,13 +11,13 @@ use Rattle.whole.specs.Table.{table}
 use Rattle.whole.proofs.Entry.{cut_in, cut_past}
 use Rattle.whole.proofs.Laws.{ℕ_cases}
 use Rattle.records.specs.Record.{Rec, file_bytes}
-use Rattle.records.proofs.Record.{length_record, file_append}
+use Rattle.records.proofs.Records.{length_record, file_append}
 use Rattle.plan.specs.declared.Shape.{Shape}
-use Rattle.planfile.specs.declared.Group.{Group}
+use Rattle.planfile.specs.Groups.{Group}
 use Rattle.planfile.specs.Groups.{groups_of, count_of, none, laid}
 use Rattle.planfile.specs.Records.{file_from}
 use Rattle.planfile.specs.Reading.{InRange}
-use Rattle.planfile.proofs.Kind.{longest, size_most}
+use Rattle.planfile.proofs.Bodies.{longest, size_most}
 use Rattle.planfile.proofs.Groups.{laid_cong, most, most_few}
 use Rattle.planfile.proofs.Filed.{AllSuit}
 

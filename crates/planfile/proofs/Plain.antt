@@ -15,15 +15,15 @@ use Rattle.whole.proofs.Test.{all_cong}
 use Rattle.records.specs.Cursor.{whole_at, place, kind_at}
 use Rattle.plan.specs.declared.Shape.{Shape}
 use Rattle.plan.specs.Held.{HeldPattern, PlainHeld, unheld_pattern}
-use Rattle.planfile.specs.declared.Group.{Group}
-use Rattle.planfile.specs.declared.Spot.{Spot}
+use Rattle.planfile.specs.Groups.{Group}
+use Rattle.planfile.specs.Groups.{Spot}
 use Rattle.planfile.specs.Kinds.{role_of}
 use Rattle.planfile.specs.Groups.{many, one, groups_of, total, spot_at, count_of, place_of}
 use Rattle.planfile.specs.Rows.{pattern_in}
 use Rattle.planfile.specs.Checks.{shape_in, has_role, role_ok, roles_ok, size_ok, sizes_ok}
 use Rattle.planfile.specs.Records.{record_in, held_of, held_in}
 use Rattle.planfile.specs.Plain.{groups_plain, PlainFile, kinds_plain, PlainKinds}
-use Rattle.planfile.proofs.Kind.{Lone, lone, paired, role_kind}
+use Rattle.planfile.proofs.Bodies.{Lone, lone, paired, role_kind}
 use Rattle.planfile.proofs.Groups.{spot_past, ◌▸◌, each_role, spot_back}
 
 -- ---- a group of none, between others

@@ -27,6 +27,7 @@ use Rattle.little_endian.proofs.TwosComplement.{signed_fits}
 use Rattle.little_endian.proofs.Runs.{length_run, number_below}
 use Rattle.records.specs.Record.{Rec, record_bytes, file_bytes}
 use Rattle.plan.specs.declared.Shape.{Shape}
+use Rattle.plan.specs.declared.Pattern.TheVariants.{Rates, Slope}
 use Rattle.plan.specs.declared.Plan.{Plan}
 use Rattle.plan.specs.Held.{
   HeldPattern,
@@ -38,7 +39,6 @@ use Rattle.plan.specs.Held.{
   unheld_instrument,
   unheld_pattern,
   missing_pattern,
-  pattern_at,
   held,
   SlopeTyped,
   Typed,
@@ -67,7 +67,7 @@ use Rattle.planfile.specs.Rows.{
 use Rattle.planfile.specs.Checks.{shape_in, has_role}
 use Rattle.planfile.specs.Records.{file_from, held_of, record_of, file_of}
 use Rattle.planfile.specs.Reading.{InRange}
-use Rattle.planfile.proofs.Kind.{Lone, lone, paired}
+use Rattle.planfile.proofs.Bodies.{Lone, lone, paired}
 use Rattle.planfile.proofs.Groups.{◌▸◌, each_role}
 use Rattle.planfile.proofs.Filed.{Suits, AllSuit, held_there}
 use Rattle.planfile.proofs.Rows.{
@@ -206,12 +206,15 @@ tidy_read h range g = record {
 -- and a start and a step that are read have 32 bits
 slope_typed : (N : ℕ) (r : Rec) → Bytes r.body → SlopeTyped (pattern_from N (pattern_in N r))
 unfolding pattern_in
-slope_typed N r b = record { start = go 0 (eqb r.kind 8); step = go 1 (eqb r.kind 8) }
+slope_typed N r b = go (eqb r.kind 8) _ _
   where
-    go : (k : ℕ) (sloped : Bool)
-        → Between (negsuc 2_147_483_647) (pos 2_147_483_647) (pick sloped (signed_of 4 (number_at 4 r.body k)) (pos 0))
-    go k true = between_32 (signed_fits w32 _ (number_below 4 b k))
-    go k false = omega whole
+    value : (k : ℕ) → Between (negsuc 2_147_483_647) (pos 2_147_483_647) (signed_of 4 (number_at 4 r.body k))
+    value k = between_32 (signed_fits w32 _ (number_below 4 b k))
+
+    go : (sloped : Bool) (until : ℕ) (rates : List ℤ)
+        → SlopeTyped (pick sloped (Slope (pick sloped (signed_of 4 (number_at 4 r.body 0)) (pos 0)) (pick sloped (signed_of 4 (number_at 4 r.body 1)) (pos 0)) until) (Rates rates))
+    go true until rates = record { start = value 0; step = value 1 }
+    go false until rates = record { start = omega whole; step = omega whole }
 
 pub typed_read : (h : Shape) → InRange h → (g : (role j : ℕ) → Rec) → ((role j : ℕ) → Bytes (g role j).body)
     → Typed (plan_from (held_of h g))
@@ -246,19 +249,15 @@ rate_fits N i ok l h = go i.sloped refl
         let is : rate_of N i (2 + l) ≡ i.rate (1 + l) = rate_at N i l n ∙ rw e in
         fits_32 (omega (whole, rw is at (ok (2 + l))))
 
-slope_fits : {z : ℤ} (sloped : Bool) → Between (negsuc 2_147_483_647) (pos 2_147_483_647) z → SFits w32 (pick sloped z (pos 0))
-slope_fits true w = fits_32 w
-slope_fits false w = fits_32 (omega whole)
-
 -- those of an accepted plan do, whose start and step have 32 bits
 pub fits_accepted : (plan : Plan) → Accepted (numbers plan) → Typed plan → Fits (held plan)
-fits_accepted plan ok typed = let H = held plan in let sloped : ℕ → Bool = λ t. (pattern_at plan t).sloped in record {
+fits_accepted plan ok typed = let H = held plan in record {
   payment = λ j k. omega (whole64, ok.payments k j);
   outflow = λ k. within_fits (omega arith) (ok.outflows k);
   rollover = λ d l. omega (arith, sum_ℕ_one (suc H.shape.terms - 1) (λ k. H.rollover (1 + k)) d (omega arith), ok.rollover);
   rate = λ t. rate_fits plan.years (H.pattern t) (ok.rates t);
-  start = pattern_each plan (λ i. SFits w32 i.start) (fits_32 (omega whole)) (λ t l. slope_fits (sloped t) (typed t l).start);
-  step = pattern_each plan (λ i. SFits w32 i.step) (fits_32 (omega whole)) (λ t l. slope_fits (sloped t) (typed t l).step);
+  start = pattern_each plan (λ i. SFits w32 i.start) (fits_32 (omega whole)) (λ t l. fits_32 (typed t l).start);
+  step = pattern_each plan (λ i. SFits w32 i.step) (fits_32 (omega whole)) (λ t l. fits_32 (typed t l).step);
   allocation = λ j l. omega (arith, sum_ℕ_one (suc H.shape.instruments - 1) (λ k. H.allocation (1 + k)) j (omega arith), ok.allocation);
   opening = λ k. omega (whole64, ok.opening k);
   cost = λ j. omega (whole64, ok.cost j);

@@ -11,8 +11,8 @@ use Rattle.whole.specs.Test.{pick}
 use Rattle.whole.proofs.Laws.{ℕ_cases}
 use Rattle.whole.proofs.Test.{false_true}
 use Rattle.plan.specs.declared.Shape.{Shape}
-use Rattle.planfile.specs.declared.Group.{Group}
-use Rattle.planfile.specs.declared.Spot.{Spot}
+use Rattle.planfile.specs.Groups.{Group}
+use Rattle.planfile.specs.Groups.{Spot}
 use Rattle.planfile.specs.Groups.{groups_of, total, spot_at, count_of, place_of}
 use Rattle.planfile.proofs.Groups.{place_spot, spot_back}
 

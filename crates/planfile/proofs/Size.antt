@@ -13,10 +13,10 @@ use Rattle.whole.specs.Test.{pick}
 use Rattle.whole.proofs.Sum.{sum_ℕ_none, sum_ℕ_first, sum_ℕ_const}
 use Rattle.little_endian.proofs.Runs.{length_run}
 use Rattle.records.specs.Record.{Rec, file_bytes}
-use Rattle.records.proofs.Record.{length_record, file_append}
+use Rattle.records.proofs.Records.{length_record, file_append}
 use Rattle.plan.specs.declared.Shape.{Shape}
 use Rattle.plan.specs.Held.{HeldPattern, Held, flag}
-use Rattle.planfile.specs.declared.Group.{Group}
+use Rattle.planfile.specs.Groups.{Group}
 use Rattle.planfile.specs.Groups.{groups_of, one, many, none, laid}
 use Rattle.planfile.specs.Rows.{instrument_rec, pattern_rec}
 use Rattle.planfile.specs.Records.{record_of, file_from, file_of}

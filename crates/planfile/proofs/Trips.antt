@@ -23,7 +23,7 @@ use Rattle.planfile.specs.Rows.{rec, head_rec}
 use Rattle.planfile.specs.Checks.{shape_in, layout_refusal}
 use Rattle.planfile.specs.Records.{record_in, file_from, held_of, record_of, held_in, file_of}
 use Rattle.planfile.specs.Reading.{InRange, Laid}
-use Rattle.planfile.proofs.Kind.{lone}
+use Rattle.planfile.proofs.Bodies.{lone}
 use Rattle.planfile.proofs.Groups.{laid_cong}
 use Rattle.planfile.proofs.Checks.{roles_consist}
 use Rattle.planfile.proofs.Filed.{whole_written, roles_written, sizes_written, record_written, first_written, suits_read, written_again}

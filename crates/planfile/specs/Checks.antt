@@ -6,9 +6,8 @@ use Rattle.records.specs.Cursor.{whole_at, whole_file, place, kind_at, body_at}
 use Rattle.plan.specs.declared.Shape.{Shape}
 use Rattle.plan.specs.Held.{flag}
 use Rattle.plan.specs.Refusal.{check, shape_ok}
-use Rattle.planfile.specs.declared.Group.{Group}
 use Rattle.planfile.specs.Kinds.{role_of, size_of}
-use Rattle.planfile.specs.Groups.{groups_of, total, spot_at}
+use Rattle.planfile.specs.Groups.{Group, groups_of, total, spot_at}
 
 module _ (s : List ℕ) where
   -- record t is there, and has this role

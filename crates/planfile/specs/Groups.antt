@@ -1,13 +1,24 @@
 -- Which records a file has, in which order: groups of records of one role (document 01, "Plan file"; kinds 7 and 9: document 02,
 -- items 1 and 6).
-use Rattle.std.specs.Prelude.{List, [], ◌∷◌, ◌++◌, ℕ, ◌+◌, ◌-◌, ltb, eqb}
+use Rattle.std.specs.Prelude.{List, [], ◌∷◌, ◌++◌, map, ℕ, ◌+◌, ◌-◌, ltb, eqb, Option, Some, None}
 use Rattle.whole.specs.Test.{pick}
 use Rattle.whole.specs.Table.{table}
 use Rattle.records.specs.Record.{Rec}
 use Rattle.plan.specs.declared.Shape.{Shape}
 use Rattle.plan.specs.Held.{flag}
-use Rattle.planfile.specs.declared.Group.{Group}
-use Rattle.planfile.specs.declared.Spot.{Spot}
+use Rattle.planfile.specs.declared.Group as group
+use Rattle.planfile.specs.declared.Spot as spot
+use Rattle.planfile.specs.Kinds.{role_number}
+
+-- so many records of one role, by its number, one after the other
+pub record Group : Type 0 where
+  pub role : ℕ
+  pub count : ℕ
+
+-- a record's role, by its number, and which of its group it is, counted from 0
+pub record Spot : Type 0 where
+  pub role : ℕ
+  pub index : ℕ
 
 -- so many of a role; one
 abbrev pub many : (role count : ℕ) → Group
@@ -28,10 +39,6 @@ groups_of h =
     ∷ many 5 h.patterns
     ∷ one 6
     ∷ []
-
--- how many groups these are
-abbrev pub group_count : ℕ
-group_count = 8
 
 -- how many records the groups have
 unfoldable pub total : List Group → ℕ
@@ -60,3 +67,14 @@ none = record { kind = 0; body = [] }
 unfoldable pub laid : List Group → (f : (role j : ℕ) → Rec) → List Rec
 laid [] f = []
 laid (g ∷ gs) f = table g.count g.count (f g.role) none ++ laid gs f
+
+-- ---- the code's groups and spots; role 0 where there is no spot
+abbrev pub group_shown : group.Group → Group
+group_shown g = record { role = role_number g.role; count = g.count }
+
+abbrev pub groups_shown : List group.Group → List Group
+groups_shown gs = map group_shown gs
+
+abbrev pub spot_shown : Option spot.Spot → Spot
+spot_shown None = record { role = 0; index = 0 }
+spot_shown (Some s) = record { role = role_number s.role; index = s.index }

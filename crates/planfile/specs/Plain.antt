@@ -4,8 +4,7 @@ use Rattle.std.specs.Prelude.{◌≡◌, Bool, List, [], ◌∷◌, ℕ, eqb, le
 use Rattle.whole.specs.Test.{both, all}
 use Rattle.records.specs.Cursor.{whole_at, place, kind_at}
 use Rattle.plan.specs.declared.Shape.{Shape}
-use Rattle.planfile.specs.declared.Group.{Group}
-use Rattle.planfile.specs.Groups.{many, one, groups_of, total, spot_at, place_of}
+use Rattle.planfile.specs.Groups.{Group, many, one, groups_of, total, spot_at, place_of}
 use Rattle.planfile.specs.Checks.{shape_in, roles_ok, size_ok, sizes_ok}
 
 -- document 01, "Plan file": 1, n times 2, 3, 4, m times 5, 6

@@ -4,7 +4,7 @@ use Rattle.whole.specs.Test.{pick}
 use Rattle.plan.specs.Held.{no_plan, plan_from}
 use Rattle.plan.specs.Numbers.{Numbers, meaning}
 use Rattle.plan.specs.Refusal.{first_of, answer, refusal_of}
-use Rattle.planfile.specs.declared.ReadAnswer.{ReadAnswer}
+use Rattle.planfile.specs.Answers.{ReadAnswer}
 use Rattle.planfile.specs.Checks.{layout_refusal}
 use Rattle.planfile.specs.Records.{held_in}
 

@@ -6,7 +6,7 @@ use Rattle.plan.specs.declared.Plan.{Plan}
 use Rattle.plan.specs.Held.{held}
 use Rattle.plan.specs.Numbers.{numbers}
 use Rattle.plan.specs.Refusal.{check, first_of, answer, refusal_of}
-use Rattle.planfile.specs.declared.WriteAnswer.{WriteAnswer}
+use Rattle.planfile.specs.Answers.{WriteAnswer}
 use Rattle.planfile.specs.Records.{file_of}
 
 module _ (plan : Plan) (buffer : List ℕ) where

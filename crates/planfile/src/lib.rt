@@ -1,139 +1,145 @@
 // The format of a plan file: which records it has, in which order, and how long they are.
 #![tactic(auto)]
 
-ghost use Rattle.std.specs.Prelude.{◌≡◌};
-ghost use Rattle.planfile.specs.Kinds.{role_of, size_of};
-ghost use Rattle.planfile.specs.Groups.{groups_of, total, spot_at};
-ghost use Rattle.planfile.specs.Reading.{InRange};
+ghost use Rattle.std.specs.Prelude.{◌≡◌, MatchOption};
+ghost use Rattle.planfile.specs.Kinds.{role_of, kind_number, role_shown};
+ghost use Rattle.planfile.specs.Groups.{groups_of, spot_at, groups_shown, spot_shown};
 
-use plan::{Plan, Shape};
+use plan::Shape;
 
-// What a file is read as: the number of the check that refuses it, or 0 and its plan.
-#[derive(Clone, Copy)]
-pub struct ReadAnswer {
-    pub refusal: u8,
-    pub plan: Plan,
+mod shaped;
+
+pub use shaped::Shaped;
+
+// What stands in a record. The numbers of the kinds are 1 to 9, in this order.
+#[derive(Clone, Copy, PartialEq, Eq)]
+pub enum Kind {
+    Head,
+    Instrument,
+    Outflows,
+    Rollover,
+    Rates,
+    Allocation,
+    Opening,
+    Slope,
+    Cost,
 }
 
-// What is answered where a plan is to be written: the number of the check that refuses it, or 0 and the length of its file.
-#[derive(Clone, Copy)]
-pub struct WriteAnswer {
-    pub refusal: u8,
-    pub length: usize,
+impl Kind {
+    // The kind with this number; none where it is no kind's.
+    pub fn of(number: usize) -> Option<Kind>
+        ensures { MatchOption result (role_of number ≡ 0) (λ kind. kind_number kind ≡ number) }
+    {
+        match number {
+            1 => Some(Kind::Head),
+            2 => Some(Kind::Instrument),
+            3 => Some(Kind::Outflows),
+            4 => Some(Kind::Rollover),
+            5 => Some(Kind::Rates),
+            6 => Some(Kind::Allocation),
+            7 => Some(Kind::Opening),
+            8 => Some(Kind::Slope),
+            9 => Some(Kind::Cost),
+            _ => None,
+        }
+    }
+}
+
+impl From<Kind> for u16 {
+    ghost from_gives = { λ kind number. number ≡ kind_number kind };
+
+    fn from(kind: Kind) -> u16 {
+        // kept: an enum gives its number by `as` alone, and a match of nine arms is no plainer
+        kind as u16 + 1
+    }
+}
+
+// Where a record stands: a pattern's rates and a slope have one role, each other kind has its own.
+#[derive(Clone, Copy, PartialEq, Eq)]
+pub enum Role {
+    Head,
+    Instrument,
+    Outflows,
+    Opening,
+    Cost,
+    Rollover,
+    Pattern,
+    Allocation,
 }
 
 // So many records of one role, one after the other.
 #[derive(Clone, Copy)]
 pub struct Group {
-    pub role: usize,
+    pub role: Role,
     pub count: usize,
+}
+
+impl Group {
+    fn of(role: Role, count: usize) -> Group
+        ensures { result ≡ record { role = role; count = count } }
+    {
+        Group { role, count }
+    }
 }
 
 // A record's role, and which of its group it is, counted from 0.
 #[derive(Clone, Copy)]
 pub struct Spot {
-    pub role: usize,
+    pub role: Role,
     pub index: usize,
 }
 
 // How many groups of records a file has.
 const GROUPS: usize = 8;
 
-// The role of a kind: the first kind that may stand where it stands; 0 where the number is no kind.
-pub fn role_of(kind: usize) -> usize
-    ensures { result ≡ role_of kind }
+// The role of a kind, by its number; none where the number is no kind's.
+#[tactic(auto, unfolding(crate::specs::Kinds::role_of, whole::specs::Entry::nth))]
+pub fn role_of(number: usize) -> Option<Role>
+    ensures { role_shown result ≡ role_of number }
 {
-    match kind {
-        0 => 0,
-        1 => 1,
-        2 => 2,
-        3 => 3,
-        4 => 4,
-        5 => 5,
-        6 => 6,
-        7 => 7,
-        8 => 5,
-        9 => 9,
-        10.. => 0, // and no kind
-    }
-}
-
-// The bytes in the body of a kind; 0 where the number is no kind.
-pub fn size_of(shape: Shape, kind: usize) -> usize
-    requires { InRange shape }
-    ensures { result ≡ size_of shape kind }
-{
-    match kind {
-        0 => 0,
-        1 => 4,
-        2 => 8 * shape.years,
-        3 => 8 * shape.years,
-        4 => 4 * shape.terms,
-        5 => 4 * (shape.years - 1),
-        6 => 4 * shape.instruments,
-        7 => 8 * shape.years,
-        8 => 9,
-        9 => 8 * shape.instruments,
-        10.. => 0,
+    match Kind::of(number)? {
+        Kind::Head => Some(Role::Head),
+        Kind::Instrument => Some(Role::Instrument),
+        Kind::Outflows => Some(Role::Outflows),
+        Kind::Rollover => Some(Role::Rollover),
+        Kind::Rates => Some(Role::Pattern),
+        Kind::Allocation => Some(Role::Allocation),
+        Kind::Opening => Some(Role::Opening),
+        Kind::Slope => Some(Role::Pattern),
+        Kind::Cost => Some(Role::Cost),
     }
 }
 
 // The records of a file of this shape, group after group.
+#[tactic(auto, unfolding(crate::specs::Groups::groups_of))]
 pub fn groups_of(shape: Shape) -> [Group; GROUPS]
-    ensures { result ≡ groups_of shape }
+    ensures { groups_shown result ≡ groups_of shape }
 {
     [
-        Group { role: 1, count: 1 },
-        Group {
-            role: 2,
-            count: shape.instruments,
-        },
-        Group { role: 3, count: 1 },
-        Group {
-            role: 7,
-            count: plan::flag(shape.opened),
-        },
-        Group {
-            role: 9,
-            count: plan::flag(shape.costed),
-        },
-        Group { role: 4, count: 1 },
-        Group {
-            role: 5,
-            count: shape.patterns,
-        },
-        Group { role: 6, count: 1 },
+        Group::of(Role::Head, 1),
+        Group::of(Role::Instrument, shape.instruments),
+        Group::of(Role::Outflows, 1),
+        Group::of(Role::Opening, usize::from(shape.opened)),
+        Group::of(Role::Cost, usize::from(shape.costed)),
+        Group::of(Role::Rollover, 1),
+        Group::of(Role::Pattern, shape.patterns),
+        Group::of(Role::Allocation, 1),
     ]
 }
 
-// How many records a file of this shape has.
-pub fn count(shape: Shape) -> usize
-    requires { InRange shape }
-    ensures { result ≡ total (groups_of shape) }
+// The spot of record t of a file of this shape; none past the last.
+pub fn spot_at(shape: Shape, t: usize) -> Option<Spot>
+    ensures { spot_shown result ≡ spot_at (groups_of shape) t }
 {
-    let groups = groups_of(shape);
-    let mut sum = 0;
-    for g in 0..GROUPS {
-        let group = groups[g];
-        sum += group.count;
-    }
-    sum
-}
-
-// The spot of record t of a file of this shape; role 0 past the last.
-pub fn spot_at(shape: Shape, t: usize) -> Spot
-    ensures { result ≡ spot_at (groups_of shape) t }
-{
-    let groups = groups_of(shape);
-    let mut left = t;
-    for g in 0..GROUPS {
-        let group = groups[g];
-        let count = group.count;
-        if left < count {
-            let role = group.role;
-            return Spot { role, index: left };
+    let mut index = t;
+    for group in groups_of(shape) {
+        if index < group.count {
+            return Some(Spot {
+                role: group.role,
+                index,
+            });
         }
-        left -= count;
+        index -= group.count;
     }
-    Spot { role: 0, index: 0 }
+    None
 }

@@ -1,8 +1,14 @@
 -- What the refusal of a call says, the ways out of a call, and that what a plan does not hold plays no part.
-use mathlib.Core.Path.{◌≡◌, sym, ap, ◌∙◌}
+use mathlib.Core.Path.{◌≡◌, sym, ap, ap₂, ◌∙◌}
 use mathlib.Core.Bool.{true, false}
+use mathlib.Core.List.{List, []}
+use lib.IntN.{ℤ}
 use Prim.Native.Nat.{ℕ, ◌≤◌}
 use native.Mathlib.Omega.{arith}
+use Rattle.std.proofs.lemmas.Result.{err_from_is_err_and}
+use Rattle.std.specs.Prelude.{Result, Err, IsErrAnd}
+use Rattle.refusal.specs.Number.{number_of, refusal_in}
+use Rattle.refusal.specs.declared.Refusal.{Refusal}
 use Rattle.whole.specs.Test.{is_from}
 use Rattle.whole.proofs.Test.{from_low, from_high}
 use Rattle.plan.specs.Held.{Held, held}
@@ -10,13 +16,17 @@ use Rattle.plan.specs.Numbers.{Numbers, meaning, numbers}
 use Rattle.plan.specs.Refusal.{answer, refusal_of, Accepted}
 use Rattle.plan.specs.declared.Plan.{Plan}
 use Rattle.plan.proofs.Checks.{check_true, first_some, first_none, first_next, answer_refused, answer_accepted, accepted}
-use Rattle.planner.specs.Calls.{call_refusal}
+use Rattle.patterns.specs.Arrays.{parts_of, shared_in, shared_with}
+use Rattle.patterns.specs.Pattern.{shared_of, bound_at}
+use Rattle.patterns.specs.declared.common.Common.{Common}
+use Rattle.plan.proofs.Number.{number_some}
+use Rattle.planner.specs.Calls.{call_refusal, bound_of}
 
 -- ---- the refusal of a call on pattern t
 module _ (P : Numbers) (t : ℕ) where
-  pub refused_plan : {number : ℕ} → number ≡ refusal_of P → (number ≡ 0 → ⊥) → number ≡ call_refusal P t
+  pub refused_plan : {A : Type 0} (e : Refusal) (r : Result A Refusal) → IsErrAnd r (λ d. d ≡ e) → number_of e ≡ refusal_of P → refusal_in r ≡ call_refusal P t
   unfolding call_refusal
-  refused_plan e h = e ∙ sym (first_some (refusal_of P) _ (λ z. h (e ∙ z)))
+  refused_plan e r h k = let p = err_from_is_err_and r h in rw (p.1, p.2) (k ∙ sym (first_some (refusal_of P) _ (λ z. number_some e (k ∙ z))))
 
   pub refused_pattern : refusal_of P ≡ 0 → is_from 1 P.patterns t ≡ false → 10 ≡ call_refusal P t
   unfolding call_refusal
@@ -45,11 +55,32 @@ called plan t e =
 
 -- ---- the ways out of a call, by the refusal that it found
 module _ {A : Type 0} (refused : ℕ → A) {number : ℕ} where
-  pub out_refused : {found : ℕ} (s : A) → found ≡ number → (found ≡ 0 → ⊥) → refused found ≡ answer refused number s
-  out_refused {found} s e h = sym (answer_refused refused found s h) ∙ ap (λ (n : ℕ). answer refused n s) e
+  pub out_number : {found : ℕ} (s : A) → found ≡ number → (found ≡ 0 → ⊥) → refused found ≡ answer refused number s
+  out_number {found} s e h = sym (answer_refused refused found s h) ∙ ap (λ (n : ℕ). answer refused n s) e
 
-  pub out_accepted : {s x : A} → number ≡ 0 → x ≡ s → x ≡ answer refused number s
-  out_accepted {s} e f = f ∙ sym (answer_accepted refused number s e)
+  pub out_refused : (e : Refusal) (s : A) → number_of e ≡ number → refused (number_of e) ≡ answer refused number s
+  out_refused e s k = out_number s k (number_some e)
+
+  -- the exit of a `?`, whose answer is shown as that refusal
+  pub out_passed : {X : Type 0} (shown : Result X Refusal → A) → ((e : Refusal) → shown (Err e) ≡ refused (number_of e)) → (e : Refusal) (r : Result X Refusal) → IsErrAnd r (λ d. d ≡ e) → number_of e ≡ number → (s : A) → shown r ≡ answer refused number s
+  out_passed shown same e r h k s = let p = err_from_is_err_and r h in rw (p.1, p.2) (same e ∙ out_refused e s k)
+
+  pub out_accepted : {s x : A} → 0 ≡ number → x ≡ s → x ≡ answer refused number s
+  out_accepted {s} e f = f ∙ sym (answer_accepted refused number s (sym e))
+
+-- ---- what all patterns share, of the code's record that is made of a plan; the plan is known by an equal one
+module _ {plan taken : Plan} (same : taken ≡ plan) (c : Common) (shared : (shares : List ℕ) → shared_in c shares ≡ shared_with (numbers taken) (parts_of taken.instruments shares)) where
+  shared_with_is : (shares : List ℕ) → shared_in c shares ≡ shared_with (numbers plan) (parts_of plan.instruments shares)
+  shared_with_is shares = shared shares ∙ ap (λ (x : Plan). shared_with (numbers x) (parts_of x.instruments shares)) same
+
+  -- with the parts of its allocation
+  pub shared_is : (shares : List ℕ) → parts_of taken.instruments shares ≡ (numbers taken).p → shared_in c shares ≡ shared_of (numbers plan)
+  shared_is shares h = shared shares ∙ ap (shared_with (numbers taken)) h ∙ ap (λ (x : Plan). shared_of (numbers x)) same
+
+  -- B looks at none
+  pub bound_law : (t : ℕ) {i : ℕ → ℤ} → i ≡ (numbers plan).i t → bound_at (shared_in c []) i ≡ bound_of (numbers plan) t
+  unfolding bound_of bound_at
+  bound_law t e = ap₂ bound_at (shared_with_is []) e
 
 -- ---- plans that hold the same are answered alike: no answer sees more of a plan than its numbers
 pub answered_alike : {A : Type 0} (answered : Numbers → A) (x y : Plan) → held x ≡ held y → answered (numbers x) ≡ answered (numbers y)

@@ -1,14 +1,19 @@
 -- The word of 64 bits: each bit, how many are set, the lowest of them. The last two are what `u64::count_ones` and
 -- `u64::trailing_zeros` give.
-use mathlib.Core.Path.{◌≡◌, refl, sym, ap, ap₂, ◌∙◌}
+use mathlib.Core.Path.{◌≡◌, refl, sym, ap, ap₂, ◌∙◌, subst}
 use mathlib.Core.Bool.{Bool, true, false}
+use mathlib.Core.Logic.{⊎_elim}
 use Prim.Native.Nat.{ℕ, zero, suc, ◌+◌, ◌*◌, ◌/◌, ◌%◌, ◌^◌, ◌≤◌, ◌<◌}
 use native.Mathlib.Nat.{pow-succ', div-eq_of_lt, lt_of_lt_of_le, not-suc-le-zero}
 use native.Mathlib.Omega.{arith}
 use lib.Count.{ones, count_trailing_zeros, under, ones_step}
 use lib.Pow.{pow_mono, shr-shr}
+use mir.Syntax.{w64}
+use Rattle.std.proofs.lemmas.Nat.Bits.{bit_at_set_same, bit_at_set_other, same_from_bits}
+use Rattle.std.specs.Int.RustNames.{bit_or}
 use Rattle.whole.specs.Sum.{sum_ℕ}
 use Rattle.whole.specs.Test.{pick}
+use Rattle.whole.proofs.Laws.{ℕ_cases}
 use Rattle.whole.proofs.Sum.{sum_ℕ_none, sum_ℕ_first}
 use Rattle.planner.specs.Verdict.{bits_of}
 
@@ -31,10 +36,6 @@ bit_div false x = omega arith
 pub bits_none : (p : ℕ → Bool) → bits_of 0 p ≡ 0
 unfolding bits_of
 bits_none p = refl
-
-pub bits_suc : (n : ℕ) (p : ℕ → Bool) → bits_of (suc n) p ≡ bit (p 0) + 2 * bits_of n (λ t. p (suc t))
-unfolding bits_of
-bits_suc n p = refl
 
 pub bits_cong : (n : ℕ) (p q : ℕ → Bool) → ((t : ℕ) → t < n → p t ≡ q t) → bits_of n p ≡ bits_of n q
 unfolding bits_of
@@ -60,6 +61,36 @@ bit_at (suc n) p (suc t) h =
 -- and every other bit is clear
 pub bit_past : (n : ℕ) (p : ℕ → Bool) (t : ℕ) → n ≤ t → bits_of n p / 2 ^ t % 2 ≡ 0
 bit_past n p t h = ap (λ (x : ℕ). x % 2) (div-eq_of_lt (lt_of_lt_of_le (bits_below n p) (pow_mono h)))
+
+-- ---- one more bit: a word whose bits are those of n tests, and that of p n
+bits_more : (n : ℕ) (p : ℕ → Bool) {x : ℕ} → ((t : ℕ) → t < n → x / 2 ^ t % 2 ≡ bits_of n p / 2 ^ t % 2) → x / 2 ^ n % 2 ≡ bit (p n) → ((t : ℕ) → n < t → x / 2 ^ t % 2 ≡ 0) → x ≡ bits_of (n + 1) p
+bits_more n p {x} low here high = same_from_bits x (bits_of (n + 1) p) (λ t. ⊎_elim
+    (λ (l : t < n). low t l ∙ bit_at n p t l ∙ sym (bit_at (n + 1) p t (omega arith)))
+    (λ (l : n ≤ t). ⊎_elim
+    (λ (k : n < t). high t k ∙ sym (bit_past (n + 1) p t (omega arith)))
+    (λ (k : t ≤ n). let e : n ≡ t = omega arith in subst (λ (t : ℕ). x / 2 ^ t % 2 ≡ bits_of (n + 1) p / 2 ^ t % 2) e (here ∙ sym (bit_at (n + 1) p n (omega arith))))
+    (ℕ_cases n t))
+    (ℕ_cases t n))
+
+-- it is clear, or set in the word so far
+pub bits_clear : {n x y : ℕ} (p : ℕ → Bool) → x ≡ bits_of n p → p n ≡ false → y ≡ x → y ≡ bits_of (n + 1) p
+bits_clear {n} {x} {y} p is e k = k ∙ is ∙ bits_more n p (λ t l. refl) (bit_past n p n (omega arith) ∙ ap bit (sym e)) (λ t l. bit_past n p t (omega arith))
+
+pub bits_set : {n x y : ℕ} (p : ℕ → Bool) → n < 64 → x ≡ bits_of n p → p n ≡ true → y ≡ bit_or x (1 * 2 ^ n % 2 ^ 64) → y ≡ bits_of (n + 1) p
+bits_set {n} {x} {y} p few is e k = k ∙ ap (λ (x : ℕ). bit_or x (1 * 2 ^ n % 2 ^ 64)) is ∙ bits_more n p
+    (λ t l. bit_at_set_other w64 (bits_of n p) n few t (λ z. omega arith))
+    (bit_at_set_same w64 (bits_of n p) n few ∙ ap bit (sym e))
+    (λ t l. bit_at_set_other w64 (bits_of n p) n few t (λ z. omega arith) ∙ bit_past n p t (omega arith))
+
+-- tests that fail add nothing
+pub bits_few : (m n : ℕ) (p : ℕ → Bool) → m ≤ n → ((t : ℕ) → m ≤ t → p t ≡ false) → bits_of n p ≡ bits_of m p
+bits_few m n p few none = same_from_bits (bits_of n p) (bits_of m p) (λ t. ⊎_elim
+    (λ (l : t < m). bit_at n p t (omega arith) ∙ sym (bit_at m p t l))
+    (λ (l : m ≤ t). ⊎_elim
+    (λ (k : t < n). bit_at n p t k ∙ ap bit (none t l))
+    (λ (k : n ≤ t). bit_past n p t k)
+    (ℕ_cases t n) ∙ sym (bit_past m p t l))
+    (ℕ_cases t m))
 
 -- ---- how many are set
 pub bits_ones : (n : ℕ) (p : ℕ → Bool) → ones (bits_of n p) ≡ sum_ℕ n (λ t. bit (p t))
@@ -103,16 +134,8 @@ bits_lowest (suc n) (suc k) p h some =
     let x = bits_of n (λ t. p (suc t)) in
     rw (bit_mod (p 0) x, bit_div (p 0) x) (lowest_of n p _ _ (p 0) refl some (bits_lowest n k (λ t. p (suc t)) (omega arith)))
 
--- ---- none is set exactly if p holds of none
+-- ---- none is set where p holds of none
 pub none_bits : (n : ℕ) (p : ℕ → Bool) → ((t : ℕ) → t < n → p t ≡ false) → bits_of n p ≡ 0
 unfolding bits_of
 none_bits zero p h = refl
 none_bits (suc n) p h = ap₂ (λ (b : Bool) (x : ℕ). bit b + 2 * x) (h 0 (omega arith)) (none_bits n (λ t. p (suc t)) (λ t l. h (suc t) (omega arith)))
-
-pub bits_zero : (n : ℕ) (p : ℕ → Bool) → bits_of n p ≡ 0 → (t : ℕ) → t < n → p t ≡ false
-unfolding bits_of
-bits_zero n p e t l = go (p t) (sym (bit_at n p t l) ∙ ap (λ (x : ℕ). x / 2 ^ t % 2) e ∙ bit_past 0 p t (omega arith))
-  where
-    go : (b : Bool) → bit b ≡ 0 → b ≡ false
-    go true e = absurd (omega arith)
-    go false e = refl

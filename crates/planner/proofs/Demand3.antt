@@ -10,6 +10,7 @@ use lib.Dec.{eqb}
 use lib.ListN.{get_or}
 use lib.IntN.{ℤ, pos, zero-*ℤ}
 use lib.Signed.{◌≤ℤ◌, ◌<ℤ◌}
+use Rattle.std.specs.Prelude.{is_some}
 use Rattle.whole.specs.Range.{million}
 use Rattle.whole.specs.Floor.{floor}
 use Rattle.whole.specs.Sum.{Σℕ}
@@ -20,7 +21,7 @@ use Rattle.whole.proofs.Test.{picked_is, from_yes, all_yes, le_le_Z}
 use Rattle.whole.proofs.Table.{table_at}
 use Rattle.reckoning.specs.Reckoning.{left}
 use Rattle.reckoning.specs.Theorem.{Given, Rounded, FromBelow, none_negative, Close}
-use Rattle.reckoning.specs.declared.Reckoned.{Reckoned}
+use Rattle.reckoning.specs.Answers.{Reckoned}
 use Rattle.reckoning.proofs.Pattern.{shares_le}
 use Rattle.reckoning.proofs.Theorem.{fund_close, form_close, amounts_close, constant_close, flow_floors, left_rounded, none_rounded, left_parts, exactly_solvent, exactly_short}
 use Rattle.plan.specs.Held.{flag, PlainHeld, held}
@@ -29,7 +30,7 @@ use Rattle.plan.specs.Refusal.{refusal_of, Accepted}
 use Rattle.plan.specs.declared.Plan.{Plan}
 use Rattle.plan.proofs.Checks.{first_none, answer_accepted, not_refused, accepted}
 use Rattle.patterns.specs.Pattern.{no_form, shared_of, flow_of, exact_flow_of, exact_left_of, left_of, exact_at, fund_at, bound_at, coefficient_at, constant_at, value_at, coefficients_fit, constant_fits, form_reckoned}
-use Rattle.patterns.specs.declared.FormAnswer.{FormAnswer}
+use Rattle.patterns.specs.Answers.{FormAnswer}
 use Rattle.patterns.proofs.Held.{terms, rollover_held_law}
 use Rattle.patterns.proofs.Reckoned.{reckoned_is}
 use Rattle.patterns.proofs.Weighing.{no_left}
@@ -62,7 +63,7 @@ use Rattle.planner.specs.Verdict.{
 use Rattle.planner.specs.Demand3.{FundNear, FormNear, ShortPattern, VerdictTrue}
 use Rattle.planner.specs.Plain.{PlainFlow, PlainHorizon, Plain}
 use Rattle.planner.specs.Alike.{Alike}
-use Rattle.planner.specs.declared.VerdictAnswer.{VerdictAnswer}
+use Rattle.planner.specs.Answers.{VerdictAnswer}
 use Rattle.planner.proofs.Answers.{refused_none, called}
 use Rattle.planner.proofs.Bits.{Lowest, bits_lowest}
 use Rattle.planner.proofs.VerdictLaws.{verdict_by, word_solvent, word_short, plan_solvent, plan_short}
@@ -226,5 +227,5 @@ module _ (plan : Plan) where
     plan_short = some_short;
   }
 
-  pub verdict_answered : {s : VerdictAnswer} → s ≡ verdict_answer (numbers plan) → (s ≡ verdict_answer (numbers plan)) × (VerdictTrue (numbers plan) s × ((plan.opened ≡ false → PlainFlow (numbers plan)) × ((plan.costed ≡ false → PlainHorizon (numbers plan)) × ((PlainHeld (held plan) → Plain (held plan)) × Alike (held plan)))))
+  pub verdict_answered : {s : VerdictAnswer} → s ≡ verdict_answer (numbers plan) → (s ≡ verdict_answer (numbers plan)) × (VerdictTrue (numbers plan) s × ((is_some plan.opening ≡ false → PlainFlow (numbers plan)) × ((is_some plan.cost ≡ false → PlainHorizon (numbers plan)) × ((PlainHeld (held plan) → Plain (held plan)) × Alike (held plan)))))
   verdict_answered e = (e, (subst (VerdictTrue (numbers plan)) (sym e) verdict_true, (flow_plan plan, (horizon_plan plan, (plain_plan plan, alike (held plan))))))

@@ -7,7 +7,7 @@ use Rattle.whole.proofs.Bridge.{whole}
 use Rattle.reckoning.specs.Exact.{with_left}
 use Rattle.reckoning.specs.Level.{Level, LevelEveryYear}
 use Rattle.reckoning.specs.Theorem.{FromBelow}
-use Rattle.reckoning.specs.declared.Reckoned.{Reckoned}
+use Rattle.reckoning.specs.Answers.{Reckoned}
 use Rattle.reckoning.proofs.Level.{H_level, level_every_year, below_apart}
 use Rattle.plan.specs.Numbers.{Numbers, numbers}
 use Rattle.plan.specs.Refusal.{Accepted}
@@ -18,7 +18,7 @@ use Rattle.planner.specs.Calls.{exact_fund, bound_of, fund_answer}
 use Rattle.planner.specs.Demand3.{FundNear}
 use Rattle.planner.specs.Verdict.{row_at, row_of}
 use Rattle.planner.specs.Level.{level_fund, LevelExact, but_rollover, LevelPair, RowsApart, LevelTrue}
-use Rattle.planner.specs.declared.BoundAnswer.{BoundAnswer}
+use Rattle.planner.specs.Answers.{BoundAnswer}
 use Rattle.planner.proofs.Answers.{called}
 use Rattle.planner.proofs.Demand3.{given, fund_called, fund_near, verdict_accepted, row_near}
 

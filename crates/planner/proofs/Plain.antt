@@ -4,6 +4,7 @@ use mathlib.Core.Bool.{Bool, true, false}
 use Prim.Native.Nat.{ℕ, ◌-◌, ◌*◌, ◌^◌}
 use native.Mathlib.Omega.{arith}
 use lib.IntN.{pos, neg_ℤ, ◌-ℤ◌, ◌*ℤ◌, +ℤ_idr}
+use Rattle.std.specs.Prelude.{is_some}
 use Rattle.whole.specs.Range.{million}
 use Rattle.whole.specs.Floor.{floor}
 use Rattle.whole.specs.Test.{both}
@@ -88,10 +89,10 @@ plain_held H e no-opening no-cost = record {
   rates = λ t l h. rate_at H.shape.years (H.pattern t) l h ∙ rw (e.sloped t);
 }
 
-pub flow_plan : (plan : Plan) → plan.opened ≡ false → PlainFlow (numbers plan)
+pub flow_plan : (plan : Plan) → is_some plan.opening ≡ false → PlainFlow (numbers plan)
 flow_plan plan e = plain_flow (numbers plan) (opening_none plan e)
 
-pub horizon_plan : (plan : Plan) → plan.costed ≡ false → PlainHorizon (numbers plan)
+pub horizon_plan : (plan : Plan) → is_some plan.cost ≡ false → PlainHorizon (numbers plan)
 horizon_plan plan e = plain_horizon (numbers plan) e (cost_none plan e)
 
 pub plain_plan : (plan : Plan) → PlainHeld (held plan) → Plain (held plan)

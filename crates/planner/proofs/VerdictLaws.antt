@@ -9,6 +9,9 @@ use lib.Dec.{eqb}
 use lib.ListN.{get_or, replicate}
 use lib.IntN.{ℤ, ◌+ℤ◌}
 use lib.Signed.{le_z, ◌≤ℤ◌}
+use Rattle.std.specs.Prelude.{Err}
+use Rattle.refusal.specs.Number.{number_of}
+use Rattle.refusal.specs.declared.Refusal.{Refusal}
 use Rattle.whole.specs.Test.{pick, all}
 use Rattle.whole.specs.Table.{table}
 use Rattle.whole.proofs.Test.{all_at, all_cong, le_true}
@@ -16,6 +19,7 @@ use Rattle.whole.proofs.Table.{table_at}
 use Rattle.plan.specs.Numbers.{Numbers}
 use Rattle.plan.specs.Refusal.{refusal_of, Accepted}
 use Rattle.plan.proofs.Checks.{first_some, accepted_none}
+use Rattle.plan.proofs.Number.{number_some}
 use Rattle.patterns.specs.Pattern.{shared_of}
 use Rattle.planner.specs.Verdict.{
   solvent,
@@ -37,10 +41,11 @@ use Rattle.planner.specs.Verdict.{
   judgement_of,
 }
 use Rattle.planner.specs.Rows.{no_judgement, verdict_of}
-use Rattle.planner.specs.declared.PatternRow.{PatternRow}
-use Rattle.planner.specs.declared.VerdictAnswer.{VerdictAnswer}
-use Rattle.planner.specs.declared.Judgement.{Judgement}
-use Rattle.planner.proofs.Answers.{out_refused, out_accepted}
+use Rattle.planner.specs.Shown.{judgement_shown}
+use Rattle.planner.specs.Answers.{PatternRow}
+use Rattle.planner.specs.Answers.{VerdictAnswer}
+use Rattle.planner.specs.Answers.{Judgement}
+use Rattle.planner.proofs.Answers.{out_number, out_accepted}
 use Rattle.planner.proofs.Bits.{bits_cong}
 
 -- ---- the verdict that m words make, and that of an array which holds them
@@ -52,8 +57,8 @@ verdict_by m word = record {
   word = plan_word_of m word (bits_of m (λ t. eqb (word t) short));
 }
 
-verdict_made : (m : ℕ) (word : ℕ → ℕ) → m ≤ 64 → {words : List ℕ} → words ≡ table 64 m word 0 → verdict_of m words ≡ verdict_by m word
-verdict_made m word few {words} e =
+made_by : (m : ℕ) (word : ℕ → ℕ) → m ≤ 64 → {words : List ℕ} → words ≡ table 64 m word 0 → verdict_of m words ≡ verdict_by m word
+made_by m word few {words} e =
     let same : (t : ℕ) → t < m → get_or words t 0 ≡ word t = λ t l. ap (λ (words : List ℕ). get_or words t 0) e ∙ table_at 64 m word 0 0 t l few in
     let shorts : bits_of m (λ t. eqb (get_or words t 0) short) ≡ bits_of m (λ t. eqb (word t) short) = bits_cong m _ _ (λ t l. ap (λ (x : ℕ). eqb x short) (same t l)) in
     let solvents : all m (λ t. eqb (get_or words t 0) solvent) ≡ all m (λ t. eqb (word t) solvent) = all_cong m _ _ (λ t l. ap (λ (x : ℕ). eqb x solvent) (same t l)) in
@@ -64,23 +69,26 @@ judgement v rows = record { verdict = v; rows = rows }
 
 module _ (P : Numbers) where
   -- ---- the refusal
-  pub plan_refuses : {number : ℕ} → number ≡ refusal_of P → (number ≡ 0 → ⊥) → number ≡ verdict_refusal P
+  pub plan_refuses : (e : Refusal) → number_of e ≡ refusal_of P → number_of e ≡ verdict_refusal P
   unfolding verdict_refusal
-  plan_refuses e h = e ∙ sym (first_some (refusal_of P) _ (λ z. h (e ∙ z)))
+  plan_refuses e k = k ∙ sym (first_some (refusal_of P) _ (λ z. number_some e (k ∙ z)))
 
   module _ (ok : Accepted P) where
     pub pattern_refuses : all P.patterns (λ t. row_fits (shared_of P) (P.i (1 + t))) ≡ false → 11 ≡ verdict_refusal P
     unfolding verdict_refusal
     pattern_refuses e = rw (accepted_none ok, e)
 
-    none_refuses : all P.patterns (λ t. row_fits (shared_of P) (P.i (1 + t))) ≡ true → verdict_refusal P ≡ 0
+    none_refuses : all P.patterns (λ t. row_fits (shared_of P) (P.i (1 + t))) ≡ true → 0 ≡ verdict_refusal P
     unfolding verdict_refusal
     none_refuses e = rw (accepted_none ok, e)
 
   -- ---- the ways out
   pub judge_refused : {number : ℕ} → number ≡ verdict_refusal P → (number ≡ 0 → ⊥) → no_judgement number ≡ judgement_of P
   unfolding judgement_of verdict_answer rows_of
-  judge_refused e h = ap₂ judgement (out_refused no_verdict _ e h) (out_refused (λ n. replicate 64 no_pattern_row) _ e h)
+  judge_refused e h = ap₂ judgement (out_number no_verdict _ e h) (out_number (λ n. replicate 64 no_pattern_row) _ e h)
+
+  pub judged_refused : (e : Refusal) → number_of e ≡ verdict_refusal P → judgement_shown (Err e) ≡ judgement_of P
+  judged_refused e k = judge_refused k (number_some e)
 
   pub judge_made : Accepted P → all P.patterns (λ t. row_fits (shared_of P) (P.i (1 + t))) ≡ true → {words : List ℕ} {rows : List PatternRow} {v : VerdictAnswer} →
       words ≡ table 64 P.patterns (λ t. pattern_word P (1 + t)) 0 → rows ≡ table 64 P.patterns (λ t. row_of P (1 + t)) no_pattern_row → v ≡ verdict_of P.patterns words →
@@ -88,7 +96,7 @@ module _ (P : Numbers) where
   unfolding judgement_of verdict_answer rows_of short_bits plan_word
   judge_made ok fit words_are rows_are e =
       let none = none_refuses ok fit in
-      ap₂ judgement (out_accepted no_verdict none (e ∙ verdict_made P.patterns (λ t. pattern_word P (1 + t)) ok.head.patterns_few words_are)) (out_accepted (λ n. replicate 64 no_pattern_row) none rows_are)
+      ap₂ judgement (out_accepted no_verdict none (e ∙ made_by P.patterns (λ t. pattern_word P (1 + t)) ok.head.patterns_few words_are)) (out_accepted (λ n. replicate 64 no_pattern_row) none rows_are)
 
   -- the verdict of a judgement
   pub verdict_judged : {j : Judgement} → j ≡ judgement_of P → j.verdict ≡ verdict_answer P

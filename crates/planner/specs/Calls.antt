@@ -1,14 +1,13 @@
 -- What each call answers, over a plan's numbers P, for good and bad input alike (document 01, "Checking order").
 use Rattle.std.specs.Prelude.{ℕ, replicate, ℤ, pos}
 use Rattle.whole.specs.Test.{is_from}
-use Rattle.reckoning.specs.Arrays.{no_row, gammas_reckoned}
-use Rattle.reckoning.specs.declared.Reckoned.{Reckoned}
-use Rattle.reckoning.specs.declared.GammaTable.{GammaTable}
+use Rattle.reckoning.specs.Answers.{Reckoned, GammaTable, no_row}
+use Rattle.reckoning.specs.Arrays.{gammas_reckoned}
 use Rattle.plan.specs.Numbers.{Numbers}
 use Rattle.plan.specs.Refusal.{check, first_of, answer, refusal_of}
+use Rattle.patterns.specs.Answers.{FormAnswer}
 use Rattle.patterns.specs.Pattern.{no_form, shared_of, exact_at, bound_at, flow_reckoned, form_reckoned}
-use Rattle.patterns.specs.declared.FormAnswer.{FormAnswer}
-use Rattle.planner.specs.declared.BoundAnswer.{BoundAnswer}
+use Rattle.planner.specs.Answers.{BoundAnswer}
 
 -- what a refusal holds: its number, and zeros
 abbrev pub no_fund : ℕ → Reckoned

@@ -2,11 +2,11 @@
 -- own numbers, with what is left at the horizon inside (document 02, item 6), and B is what the bound's call answers for the same plan and
 -- pattern.
 use Rattle.std.specs.Prelude.{◌≡◌, ℕ, ◌+◌, ◌-◌, ◌*◌, ◌≤◌, get_or, pos, ◌≤ℤ◌, ◌<ℤ◌}
+use Rattle.reckoning.specs.Answers.{Reckoned}
 use Rattle.reckoning.specs.Theorem.{FromBelow}
-use Rattle.reckoning.specs.declared.Reckoned.{Reckoned}
 use Rattle.plan.specs.Numbers.{Numbers}
-use Rattle.patterns.specs.declared.FormAnswer.{FormAnswer}
-use Rattle.planner.specs.declared.VerdictAnswer.{VerdictAnswer}
+use Rattle.patterns.specs.Answers.{FormAnswer}
+use Rattle.planner.specs.Answers.{VerdictAnswer}
 use Rattle.planner.specs.Calls.{exact_fund, bound_of, bound_answer}
 use Rattle.planner.specs.Verdict.{solvent, short}
 

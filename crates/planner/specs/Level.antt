@@ -1,14 +1,14 @@
 -- Document 02, item 7: what is said of a pattern whose rates are all equal. A planner who changes the rollover there asks why the fund barely
 -- moves: the exact fund does not know the rollover, and the fund that is answered is near it.
 use Rattle.std.specs.Prelude.{◌≡◌, ℕ, ◌≤◌, ℤ, pos, nat_abs, ◌-ℤ◌, ◌<ℤ◌}
+use Rattle.reckoning.specs.Answers.{Reckoned}
 use Rattle.reckoning.specs.Exact.{with_left}
 use Rattle.reckoning.specs.Level.{Level, level_H}
-use Rattle.reckoning.specs.declared.Reckoned.{Reckoned}
 use Rattle.plan.specs.Numbers.{Numbers, numbers}
 use Rattle.plan.specs.Refusal.{refusal_of}
 use Rattle.plan.specs.declared.Plan.{Plan}
 use Rattle.patterns.specs.Pattern.{shared_of, exact_flow_of, exact_left_of}
-use Rattle.planner.specs.declared.BoundAnswer.{BoundAnswer}
+use Rattle.planner.specs.Answers.{BoundAnswer}
 use Rattle.planner.specs.Calls.{exact_fund, fund_answer, bound_answer}
 use Rattle.planner.specs.Verdict.{row_of, verdict_answer}
 

@@ -2,10 +2,7 @@
 use Rattle.std.specs.Prelude.{List, [], ℕ, eqb, get_or, replicate, ℤ, pos}
 use Rattle.whole.specs.Test.{pick}
 use Rattle.patterns.specs.Pattern.{Shared}
-use Rattle.planner.specs.declared.PatternRow.{PatternRow}
-use Rattle.planner.specs.declared.OneRow.{OneRow}
-use Rattle.planner.specs.declared.VerdictAnswer.{VerdictAnswer}
-use Rattle.planner.specs.declared.Judgement.{Judgement}
+use Rattle.planner.specs.Answers.{PatternRow, OneRow, VerdictAnswer, Judgement}
 use Rattle.planner.specs.Verdict.{short, row_fits, row_at, bits_of, plan_word_of, no_verdict, no_pattern_row}
 
 -- what a refusal holds

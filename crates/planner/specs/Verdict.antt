@@ -6,9 +6,7 @@ use Rattle.whole.specs.Table.{table}
 use Rattle.plan.specs.Numbers.{Numbers}
 use Rattle.plan.specs.Refusal.{answer, first_of, check, refusal_of}
 use Rattle.patterns.specs.Pattern.{Shared, shared_of, fund_at, bound_at, constant_at, coefficients_at, flow_fits, coefficients_fit, constant_fits}
-use Rattle.planner.specs.declared.PatternRow.{PatternRow}
-use Rattle.planner.specs.declared.Judgement.{Judgement}
-use Rattle.planner.specs.declared.VerdictAnswer.{VerdictAnswer}
+use Rattle.planner.specs.Answers.{PatternRow, VerdictAnswer, Judgement}
 
 -- words are numbers from 1, in this order
 abbrev pub solvent : ℕ

@@ -1,391 +1,162 @@
 // The calls open to callers. Each takes any plan and any pattern number, and its contract says the whole answer.
 #![tactic(auto)]
 
-ghost use Rattle.std.specs.Prelude.{◌≡◌, false, ◌≤◌, eqb, get_or, pos};
-ghost use Rattle.whole.specs.Range.{limit, Between, Within};
-ghost use Rattle.whole.specs.Test.{pick};
-ghost use Rattle.reckoning.specs.Arrays.{rates_of, Rates};
+mod rows;
+
+ghost use Rattle.std.specs.Prelude.{◌≡◌, false, List, ℕ, IfOk, is_some};
+ghost use Rattle.whole.specs.Range.{limit, Within};
+ghost use Rattle.refusal.specs.Number.{refusal_in};
+ghost use Rattle.reckoning.specs.Answers.{fund_shown, gammas_shown};
+ghost use Rattle.reckoning.specs.Arrays.{rates_of, amounts_of};
 ghost use Rattle.reckoning.specs.Level.{LevelEveryYear};
 ghost use Rattle.plan.specs.Held.{PlainHeld, held};
 ghost use Rattle.plan.specs.Numbers.{numbers};
-ghost use Rattle.plan.specs.Refusal.{Accepted};
-ghost use Rattle.patterns.specs.Arrays.{payments_rows, common_of, shared_in, left_in, flow_array, Prepared};
+ghost use Rattle.patterns.specs.Arrays.{shared_in, left_in};
+ghost use Rattle.patterns.specs.Pattern.{flow_of};
+ghost use Rattle.patterns.specs.Shown.{form_shown};
 ghost use Rattle.planner.specs.Calls.{call_refusal, fund_answer, bound_answer, gammas_answer, form_answer};
-ghost use Rattle.planner.specs.Verdict.{short, word_of, bits_of, no_pattern_row, plan_word_of, verdict_answer, judgement_of};
-ghost use Rattle.planner.specs.Rows.{refused_row, row_reckoned, no_judgement, verdict_of};
+ghost use Rattle.planner.specs.Verdict.{verdict_answer, judgement_of};
+ghost use Rattle.planner.specs.Rows.{row_reckoned};
 ghost use Rattle.planner.specs.Demand3.{FundNear, FormNear, VerdictTrue};
 ghost use Rattle.planner.specs.Level.{LevelTrue};
 ghost use Rattle.planner.specs.Plain.{PlainFlow, PlainHorizon, Plain};
 ghost use Rattle.planner.specs.Alike.{Alike};
+ghost use Rattle.planner.specs.Shown.{bound_shown, one_shown, verdict_shown, judgement_shown};
 
-use patterns::{Common, FormAnswer};
-use plan::Plan;
-use reckoning::{GammaTable, Reckoned, Row};
-
-#[derive(Clone, Copy)]
-pub struct BoundAnswer {
-    pub refusal: u8,
-    pub bound: i64,
-}
+use patterns::{Allocation, Common, Form};
+use plan::{AcceptedPlan, Plan};
+use reckoning::{Flow, NewMoney, Row};
+use refusal::Refusal;
+use rows::words_in;
+pub use rows::{Judged, PatternRow, Verdict, Word, word_of};
 
 // ---- the calls
 
-// The first of the plan's own checks, or of check 10, that a call on pattern t fails, 10 for t = 0 and past the last pattern; 0 if none.
-fn call_refusal(plan: Plan, t: usize) -> u8
-    ensures { result ≡ call_refusal (numbers plan) t }
-{
-    let no = plan::refusal(plan);
-    if no != 0 {
-        return no;
-    }
-    if t < 1 {
-        return 10;
-    }
-    let m = plan.patterns;
-    if t > m {
-        return 10;
-    }
-    0
+// What a call on one pattern starts from: the plan, which its own checks take, and the pattern's rates.
+#[derive(Clone, Copy)]
+struct Call<'a> {
+    plan: AcceptedPlan<'a>,
+    i: NewMoney,
 }
 
-// The fund of the plan's allocation in pattern t, which counts from 1; 0 on a refusal: 3, 6 to 11 or 13. At level rates another rollover
+impl Call<'_> {
+    // On pattern t, which counts from 1; refused by the first of the plan's own checks, or of check 10, that the call fails: 10 for t = 0
+    // and past the last pattern.
+    // kept: a plan and a number are what a caller has, and a struct of both would be made for the one call
+    fn on(plan: &Plan, t: usize) -> Result<Call<'_>, Refusal>
+        ensures is { refusal_in result ≡ call_refusal (numbers plan.now) t }
+        ensures plan_value { IfOk result (λ call. call.plan.plan.now ≡ plan.now) }
+        ensures rates { IfOk result (λ call. rates_of call.i.rates ≡ (numbers plan.now).i t) }
+    {
+        let plan = plan.accepted()?;
+        if !(1..=plan.plan.patterns).contains(&t) {
+            return Err(Refusal::PatternNumber);
+        }
+        Ok(Call {
+            plan,
+            i: patterns::new_money(plan, t - 1),
+        })
+    }
+}
+
+// The fund of the plan's allocation in pattern t, which counts from 1; refused by checks 3, 6 to 11 or 13. At level rates another rollover
 // moves it by less than the bound.
+// kept: a plan and a number are what a caller has, and a struct of both would be made for the one call
 #[inline(never)]
-pub fn fund(plan: Plan, t: usize) -> Reckoned
-    ensures is { result ≡ fund_answer (numbers plan) t }
-    ensures near { FundNear (numbers plan) t result }
-    ensures level { LevelTrue plan t result }
+pub fn fund(plan: &Plan, t: usize) -> Result<i64, Refusal>
+    ensures is { fund_shown result ≡ fund_answer (numbers plan.now) t }
+    ensures near { FundNear (numbers plan.now) t (fund_shown result) }
+    ensures level { LevelTrue plan.now t (fund_shown result) }
     ensures theorem { LevelEveryYear }
 {
-    let no = call_refusal(plan, t);
-    if no != 0 {
-        return Reckoned {
-            refusal: no,
-            fund: 0,
-        };
-    }
-    let constant = patterns::constant_flow_of(plan);
-    let common = patterns::common_of(plan, constant);
-    let payments = patterns::payments_of(plan);
-    let i = patterns::rates_of(plan, t);
-    patterns::allocation_at(common, &payments, &i)
+    let Call { plan, i } = Call::on(plan, t)?;
+    Common::of(plan).allocation_fund(&Allocation::of(plan), &i)
 }
 
-// The bound B of pattern t, in amounts; 0 on a refusal: 3, 6 to 10 or 13.
-pub fn bound(plan: Plan, t: usize) -> BoundAnswer
-    ensures { result ≡ bound_answer (numbers plan) t }
+// The bound B of pattern t, in amounts; refused by checks 3, 6 to 10 or 13.
+// kept: a plan and a number are what a caller has, and a struct of both would be made for the one call
+pub fn bound(plan: &Plan, t: usize) -> Result<i64, Refusal>
+    ensures { bound_shown result ≡ bound_answer (numbers plan.now) t }
 {
-    let no = call_refusal(plan, t);
-    if no != 0 {
-        return BoundAnswer {
-            refusal: no,
-            bound: 0,
-        };
-    }
-    let years = plan.years;
-    let costed = plan.costed;
-    let rates = patterns::rates_of(plan, t);
-    let b = patterns::bound_at(&rates, years, costed);
-    BoundAnswer {
-        refusal: 0,
-        bound: b,
-    }
+    let call = Call::on(plan, t)?;
+    Ok(Common::of(call.plan).bound(&call.i))
 }
 
-// The linear form of pattern t: K_1 to K_n, Q, and its value at the plan's allocation; zeros on a refusal: 3, 6 to 11 or 13.
-pub fn form(plan: Plan, t: usize) -> FormAnswer
-    ensures is { result ≡ form_answer (numbers plan) t }
-    ensures near { FormNear (numbers plan) t result }
+// The linear form of pattern t: K_1 to K_n, Q, and its value at the plan's allocation; refused by checks 3, 6 to 11 or 13.
+// kept: a plan and a number are what a caller has, and a struct of both would be made for the one call
+pub fn form(plan: &Plan, t: usize) -> Result<Form, Refusal>
+    ensures is { form_shown result ≡ form_answer (numbers plan.now) t }
+    ensures near { FormNear (numbers plan.now) t (form_shown result) }
 {
-    let no = call_refusal(plan, t);
-    if no != 0 {
-        return patterns::no_form(no);
-    }
-    let constant = patterns::constant_flow_of(plan);
-    let common = patterns::common_of(plan, constant);
-    let payments = patterns::payments_of(plan);
-    let pattern = patterns::rates_of(plan, t);
-    patterns::form_at(common, &payments, &pattern)
+    let Call { plan, i: rates } = Call::on(plan, t)?;
+    Common::of(plan).form(&Allocation::of(plan), &rates)
 }
 
-// The table of gammas of pattern t; zeros on a refusal: 3, 6 to 11 or 13.
+// The table of gammas of pattern t; refused by checks 3, 6 to 11 or 13.
+// kept: a plan and a number are what a caller has, and a struct of both would be made for the one call
 #[inline(never)]
-pub fn gammas(plan: Plan, t: usize) -> GammaTable
-    ensures { result ≡ gammas_answer (numbers plan) t }
+pub fn gammas(plan: &Plan, t: usize) -> Result<[Row; 30], Refusal>
+    ensures { gammas_shown result ≡ gammas_answer (numbers plan.now) t }
 {
-    let no = call_refusal(plan, t);
-    if no != 0 {
-        let none = Row { values: [0; 30] };
-        return GammaTable {
-            refusal: no,
-            rows: [none; 30],
-        };
-    }
-    let terms = plan.terms;
-    let r = patterns::rollover_of(plan);
-    let w = reckoning::weights(r, terms);
-    reckoning::gammas(r, w, patterns::rates_of(plan, t), plan.years, terms)
+    let Call { plan, i: new_money } = Call::on(plan, t)?;
+    patterns::rollover_of(plan).gammas(&new_money)
 }
 
 // ---- the verdict
 
-// What one pattern comes to: its word, its fund and bound, K_1 to K_n and Q.
-#[derive(Clone, Copy)]
-pub struct PatternRow {
-    pub word: u8,
-    pub fund: i64,
-    pub bound: i64,
-    pub coefficients: [i64; 16],
-    pub constant: i64,
-}
-
-#[derive(Clone, Copy)]
-pub struct OneRow {
-    pub refusal: u8,
-    pub row: PatternRow,
-}
-
-// The word of every pattern; the short ones as bits, bit t - 1 for pattern t; the plan's word.
-#[derive(Clone, Copy)]
-pub struct VerdictAnswer {
-    pub refusal: u8,
-    pub words: [u8; 64],
-    pub short: u64,
-    pub word: u8,
-}
-
-// A verdict, and the rows that it was made of.
-#[derive(Clone, Copy)]
-pub struct Judgement {
-    pub verdict: VerdictAnswer,
-    pub rows: [PatternRow; 64],
-}
-
-// The word of a fund z with the bound b, against c: solvent from c on, short where z + b is c or less, else close.
-pub fn word_of(z: i64, b: i64, c: i64) -> u8
-    requires within { Within limit z }
-    requires between { Between (pos 0) (pos 4_294_967_296) b }
-    ensures { result ≡ word_of z b c }
+// What a pattern of the rates i comes to, each of its flows reckoned once: the allocation's, with what is left of it, every instrument's
+// and that of Q; refused at the first that check 11 does not take.
+// kept: one flow meets every pattern's rates, and what is left of it is one number, which a type would only wrap and unwrap
+fn pattern_row(common: &Common, flow: &Flow, left: i64, i: &NewMoney) -> Result<PatternRow, Refusal>
+    requires { Within limit left }
+    ensures { (shares : List ℕ) → amounts_of flow.now.amounts ≡ flow_of (shared_in common.now shares) → left ≡ left_in common.now shares
+        → one_shown result ≡ row_reckoned (shared_in common.now shares) (rates_of i.now.rates) }
 {
-    if z >= c {
-        return 1;
-    }
-    if z + b <= c {
-        return 2;
-    }
-    3
+    let fund = common.fund(flow, left, i)?;
+    let coefficients = common.coefficients(i)?;
+    let constant = common.constant(i)?;
+    let bound = common.bound(i);
+    Ok(PatternRow {
+        word: word_of(fund, bound, 0),
+        fund,
+        bound,
+        coefficients,
+        constant,
+    })
 }
 
-// The row of no pattern: zeros.
-fn no_pattern_row() -> PatternRow
-    ensures { result ≡ no_pattern_row }
-{
-    PatternRow {
-        word: 0,
-        fund: 0,
-        bound: 0,
-        coefficients: [0i64; 16],
-        constant: 0,
-    }
-}
-
-// What a pattern that check 11 refuses comes to.
-fn refused_row() -> OneRow
-    ensures { result ≡ refused_row }
-{
-    let none = no_pattern_row();
-    OneRow {
-        refusal: 11,
-        row: none,
-    }
-}
-
-// What a pattern of the rates i comes to, each of its flows reckoned once; refused 11, and zeros, at the first that check 11 does not
-// take.
-fn row_at(
-    common: Common,
-    payments: &[[i64; 30]; 16],
-    flow: &[i64; 30],
-    left: i64,
-    i: &[i64; 30],
-) -> OneRow
-    requires prepared { Prepared common payments.now }
-    requires flow_value { flow.now ≡ flow_array (shared_in common payments.now) }
-    requires left_value { left ≡ left_in common }
-    requires rates { Rates i.now }
-    ensures { result ≡ row_reckoned (shared_in common payments.now) (rates_of i.now) }
-{
-    let c = patterns::fund_at(common, flow, left, i);
-    let no = c.refusal;
-    if no != 0 {
-        return refused_row();
-    }
-    let f = patterns::coefficients_of(common, payments, i);
-    let also = f.refusal;
-    if also != 0 {
-        return refused_row();
-    }
-    let d = patterns::constant_at(common, i);
-    let too = d.refusal;
-    if too != 0 {
-        return refused_row();
-    }
-    let years = common.years;
-    let costed = common.costed;
-    let z = c.fund;
-    let b = patterns::bound_at(i, years, costed);
-    let word = word_of(z, b, 0);
-    let k = f.values;
-    let constant = d.fund;
-    let row = PatternRow {
-        word: word,
-        fund: z,
-        bound: b,
-        coefficients: k,
-        constant: constant,
-    };
-    OneRow {
-        refusal: 0,
-        row: row,
-    }
-}
-
-// 1 for the word short, 0 for any other.
-fn short_bit(word: u8) -> u64
-    ensures { result ≡ pick (eqb word short) 1 0 }
-{
-    if word == 2 { 1 } else { 0 }
-}
-
-// The short ones of m words as bits, the lowest that of the first word, and 0 from bit m on; 0 of no word.
-fn short_bits(words: [u8; 64], m: usize) -> u64
-    requires { m ≤ 64 }
-    ensures { result ≡ bits_of m (λ t. eqb (get_or words t 0) short) }
-{
-    let mut bits: u64 = 0;
-    let mut t = m;
-    while 0 < t {
-        t -= 1;
-        bits = short_bit(words[t]) + 2 * bits;
-    }
-    bits
-}
-
-// The plan's word, of its m patterns' words and the short ones as bits: short if a bit is set, else solvent if every word is, else
-// close.
-fn plan_word(words: [u8; 64], m: usize, bits: u64) -> u8
-    requires { m ≤ 64 }
-    ensures { result ≡ plan_word_of m (λ t. get_or words t 0) bits }
-{
-    if bits != 0 {
-        return 2;
-    }
-    for t in 0..m {
-        if words[t] != 1 {
-            return 3;
-        }
-    }
-    1
-}
-
-// The verdict that m words make, accepted.
-fn verdict_of(words: [u8; 64], m: usize) -> VerdictAnswer
-    requires { m ≤ 64 }
-    ensures { result ≡ verdict_of m words }
-{
-    let short = short_bits(words, m);
-    let word = plan_word(words, m, short);
-    VerdictAnswer {
-        refusal: 0,
-        words: words,
-        short: short,
-        word: word,
-    }
-}
-
-// The judgement of a plan that is refused: the refusal's number, and zeros.
-fn no_judgement(refusal: u8) -> Judgement
-    ensures { result ≡ no_judgement refusal }
-{
-    let none = no_pattern_row();
-    let verdict = VerdictAnswer {
-        refusal: refusal,
-        words: [0u8; 64],
-        short: 0,
-        word: 0,
-    };
-    Judgement {
-        verdict: verdict,
-        rows: [none; 64],
-    }
-}
-
-// Every pattern in turn, and the verdict that their words make, with zeros past the last pattern; refused 11, and zeros, at the first
+// The judgement of a plan that was already checked: every pattern in turn, and the verdict that their words make; refused 11 at the first
 // pattern that check 11 does not take.
-fn judged(plan: Plan, common: Common, payments: &[[i64; 30]; 16]) -> Judgement
-    requires accepted { Accepted (numbers plan) }
-    requires common_value { common ≡ common_of plan }
-    requires payments_value { payments.now ≡ payments_rows (numbers plan) }
-    ensures { result ≡ judgement_of (numbers plan) }
+pub fn judge_accepted(plan: AcceptedPlan<'_>) -> Result<Judged, Refusal>
+    ensures { judgement_shown result ≡ judgement_of (numbers plan.entry.plan.now) }
 {
-    let m = plan.patterns;
-    let years = plan.years;
-    let pattern = plan.pattern;
-    let flow = patterns::flow_of(common, payments);
-    let left = patterns::left_of(common);
-    let none = no_pattern_row();
-    let mut words = [0u8; 64];
-    let mut rows = [none; 64];
-    for t in 0..m {
-        let one = pattern[t];
-        let i = plan::rates(one, years);
-        let c = row_at(common, payments, &flow, left, &i);
-        let refusal = c.refusal;
-        if refusal != 0 {
-            return no_judgement(11);
-        }
-        let row = c.row;
-        words[t] = row.word;
-        rows[t] = row;
+    let common = Common::of(plan);
+    let allocation = Allocation::of(plan);
+    let flow = common.flow(&allocation);
+    let left = common.left(&allocation);
+    let mut rows = [None; 64];
+    for (t, row) in rows[..plan.plan.patterns].iter_mut().enumerate() {
+        *row = Some(pattern_row(&common, &flow, left, &patterns::new_money(plan, t))?);
     }
-    let verdict = verdict_of(words, m);
-    Judgement {
-        verdict: verdict,
-        rows: rows,
-    }
+    let Verdict { short, word, .. } = Verdict::of(words_in(&rows));
+    Ok(Judged { rows, short, word })
 }
 
-// The judgement of a plan that was already checked: the project's own leaf and no entry; a file's reader has made the checks.
-pub fn judge_accepted(plan: Plan) -> Judgement
-    requires { Accepted (numbers plan) }
-    ensures { result ≡ judgement_of (numbers plan) }
+// The verdict on a plan, with what each of its patterns comes to; refused by checks 3, 6 to 9, 11 or 13.
+pub fn judge(plan: &Plan) -> Result<Judged, Refusal>
+    ensures { judgement_shown result ≡ judgement_of (numbers plan.now) }
 {
-    let constant = patterns::constant_flow_of(plan);
-    let common = patterns::common_of(plan, constant);
-    let payments = patterns::payments_of(plan);
-    judged(plan, common, &payments)
+    judge_accepted(plan.accepted()?)
 }
 
-// The verdict on a plan, with what each of its patterns comes to; zeros on a refusal: 3, 6 to 9, 11 or 13.
-pub fn judge(plan: Plan) -> Judgement
-    ensures { result ≡ judgement_of (numbers plan) }
+// The verdict on a plan; refused by checks 3, 6 to 9, 11 or 13.
+pub fn verdict(plan: &Plan) -> Result<Verdict, Refusal>
+    ensures is { verdict_shown result ≡ verdict_answer (numbers plan.now) }
+    ensures near { VerdictTrue (numbers plan.now) (verdict_shown result) }
+    ensures flow { is_some plan.now.opening ≡ false → PlainFlow (numbers plan.now) }
+    ensures horizon { is_some plan.now.cost ≡ false → PlainHorizon (numbers plan.now) }
+    ensures plain { PlainHeld (held plan.now) → Plain (held plan.now) }
+    ensures alike { Alike (held plan.now) }
 {
-    let no = plan::refusal(plan);
-    if no != 0 {
-        return no_judgement(no);
-    }
-    judge_accepted(plan)
-}
-
-// The verdict on a plan; zeros on a refusal: 3, 6 to 9, 11 or 13.
-pub fn verdict(plan: Plan) -> VerdictAnswer
-    ensures is { result ≡ verdict_answer (numbers plan) }
-    ensures near { VerdictTrue (numbers plan) result }
-    ensures flow { plan.opened ≡ false → PlainFlow (numbers plan) }
-    ensures horizon { plan.costed ≡ false → PlainHorizon (numbers plan) }
-    ensures plain { PlainHeld (held plan) → Plain (held plan) }
-    ensures alike { Alike (held plan) }
-{
-    let j = judge(plan);
-    j.verdict
+    Ok(judge(plan)?.verdict())
 }

@@ -1,4 +1,4 @@
--- The plan after some records of a file, by how many of each role were seen: what the loop of `plan_in` holds. A record changes what is of
+-- The plan after some records of a file, by how many of each role were seen: what the loop of `put` holds. A record changes what is of
 -- its role and nothing else, and that computes.
 use mathlib.Core.Path.{◌≡◌, refl, sym, ap, ◌∙◌}
 use mathlib.Core.Bool.{Bool, true, false}
@@ -8,6 +8,7 @@ use native.Mathlib.Omega.{arith}
 use lib.Dec.{eqb}
 use lib.IntN.{ℤ, pos}
 use lib.ListN.{set}
+use Rattle.std.specs.Prelude.{Some, None}
 use Rattle.whole.specs.Entry.{entry}
 use Rattle.whole.specs.Table.{table}
 use Rattle.whole.specs.Test.{pick}
@@ -20,17 +21,18 @@ use Rattle.records.specs.Cursor.{kind_at, body_at}
 use Rattle.records.proofs.Cursor.{record_at}
 use Rattle.plan.specs.declared.Shape.{Shape}
 use Rattle.plan.specs.declared.Pattern.{Pattern}
+use Rattle.plan.specs.declared.Pattern.TheVariants.{Rates}
 use Rattle.plan.specs.declared.Plan.{Plan}
-use Rattle.plan.specs.Held.{Held, flag, openings, costs, shape_of, unheld_instrument, unheld_pattern, no_instrument, no_pattern, no_plan, instrument_from, pattern_from, plan_from}
+use Rattle.plan.specs.Held.{Held, flag, unheld_instrument, unheld_pattern, no_instrument, no_pattern, no_plan, instrument_from, pattern_from, plan_from}
 use Rattle.planfile.specs.Kinds.{role_of}
 use Rattle.planfile.specs.Groups.{groups_of, total, spot_at, count_of}
 use Rattle.planfile.specs.Rows.{rec, instrument_in, pattern_in}
 use Rattle.planfile.specs.Checks.{roles_ok}
 use Rattle.planfile.specs.Records.{record_in, held_of}
 use Rattle.planfile.proofs.Checks.{role_there}
-use Rattle.planfile.proofs.Groups.{held_few, held_all, spot_back}
+use Rattle.planfile.proofs.Groups.{held_few, spot_back}
 use Rattle.planfile.proofs.Seen.{seen, bump, seen_none, seen_all, seen_index, seen_more}
-use Rattle.reader.specs.Reading.{amounts_read, shares_read, list_read, slope_read}
+use Rattle.reader.specs.Reading.{rates_read, slope_read}
 
 -- ---- record t of a file that has passed check 4 is record j of its role, the next that is to be seen
 pub record Turn (s : List ℕ) (h : Shape) (t role j : ℕ) : Type 0 where
@@ -72,10 +74,8 @@ plan_seen H c =
       rollover = table 30 (once (c 4) 0 h.terms) (λ d. H.rollover (1 + d)) 0;
       pattern = table 64 (c 5) (λ t. pattern_from h.years (H.pattern (1 + t))) no_pattern;
       allocation = table 16 (once (c 6) 0 h.instruments) (λ j. H.allocation (1 + j)) 0;
-      opened = once (c 1) false h.opened;
-      opening = table 30 (once (c 7) 0 (openings h)) (λ k. H.opening (1 + k)) (pos 0);
-      costed = once (c 1) false h.costed;
-      cost = table 16 (once (c 9) 0 (costs h)) (λ j. H.cost (1 + j)) (pos 0);
+      opening = once (c 7) None (pick h.opened (Some (table 30 h.years (λ k. H.opening (1 + k)) (pos 0))) None);
+      cost = once (c 9) None (pick h.costed (Some (table 16 h.instruments (λ j. H.cost (1 + j)) (pos 0))) None);
     }
 
 -- a plan, but what is of one role taken from another
@@ -90,9 +90,7 @@ changed role plan other = record {
   rollover = pick (eqb role 4) other.rollover plan.rollover;
   pattern = pick (eqb role 5) other.pattern plan.pattern;
   allocation = pick (eqb role 6) other.allocation plan.allocation;
-  opened = pick (eqb role 1) other.opened plan.opened;
   opening = pick (eqb role 7) other.opening plan.opening;
-  costed = pick (eqb role 1) other.costed plan.costed;
   cost = pick (eqb role 9) other.cost plan.cost;
 }
 
@@ -107,21 +105,30 @@ changed_back role plan other = simp pick_back
 array_in : {A : Type 0} (m n : ℕ) (f : ℕ → A) (d : A) → table m n f d ≡ table m n (λ k. entry d n f (1 + k)) d
 array_in m n f d = table_cong m n f _ d (λ k l. sym (entry_at d n f k l))
 
+-- amounts and shares as they are read
+abbrev pub amounts_read : (m n : ℕ) → (body : List ℕ) → List ℤ
+amounts_read m n body = table m n (λ k. signed_of 8 (number_at 8 body k)) (pos 0)
+
+abbrev pub shares_read : (m n : ℕ) → (body : List ℕ) → List ℕ
+shares_read m n body = table m n (number_at 4 body) 0
+
 -- a pattern's row, of either kind
-pub list_row : (N kind : ℕ) (body : List ℕ) → kind ≡ 5 → list_read (N - 1) body ≡ pattern_from N (pattern_in N (rec kind body))
+pub list_row : (N kind : ℕ) (body : List ℕ) → kind ≡ 5 → Rates (rates_read (N - 1) body) ≡ pattern_from N (pattern_in N (rec kind body))
 unfolding pattern_in
-list_row N kind body e =
-    rw e
-    (ap (λ (xs : List ℤ). record { rates = xs; sloped = false; start = pos 0; step = pos 0; until = 0; spare = 0 }) (array_in 30 (N - 1) _ (pos 0)))
+list_row N kind body e = rw e (ap Rates (array_in 30 (N - 1) _ (pos 0)))
 
 pub slope_row : (N kind : ℕ) (body : List ℕ) → kind ≡ 8 → slope_read body ≡ pattern_from N (pattern_in N (rec kind body))
-unfolding pattern_in table
+unfolding pattern_in
 slope_row N kind body e = rw e refl
 
--- after the last record, all that is held of a kind that may be absent was seen
-once_held : (is_held : Bool) (n : ℕ) → once (flag is_held) 0 (pick is_held n 0) ≡ pick is_held n 0
-once_held true n = refl
-once_held false n = refl
+-- what is held of a kind that may be absent: before its record nothing was seen of it, and after the last record all
+once_held : {A : Type 0} (is_held : Bool) (none some : A) → once (flag is_held) none (pick is_held some none) ≡ pick is_held some none
+once_held true none some = refl
+once_held false none some = refl
+
+held_some : {A : Type 0} (is_held : Bool) {j : ℕ} → j < flag is_held → (none some : A) → pick is_held some none ≡ some
+held_some true l none some = refl
+held_some false l none some = absurd (omega arith)
 
 -- ---- record after record
 module _ (s : List ℕ) (h : Shape) where
@@ -138,7 +145,10 @@ module _ (s : List ℕ) (h : Shape) where
 
   pub after_all : plan_after (total (groups_of h)) ≡ plan_from H
   unfolding plan_after plan_seen plan_from held_of groups_of count_of
-  after_all = rw (seen_all, once_held h.opened h.years, once_held h.costed h.instruments)
+  after_all =
+      let opening : List ℤ = table 30 h.years (λ k. H.opening (1 + k)) (pos 0) in
+      let cost : List ℤ = table 16 h.instruments (λ j. H.cost (1 + j)) (pos 0) in
+      rw (seen_all, once_held h.opened None (Some opening), once_held h.costed None (Some cost))
 
   -- the row of an instrument, and what is held of a pattern
   instrument_in_law : (j : ℕ) → j < h.instruments → record { payments = amounts_read 30 h.years (record_in s h 2 j).body } ≡ instrument_from h.years (H.instrument (1 + j))
@@ -157,9 +167,9 @@ module _ (s : List ℕ) (h : Shape) where
     unfolding plan_after
     next role k kept e = sym (changed_back role p q) ∙ ap (λ (plan : Plan). changed role plan q) (kept ∙ held) ∙ e ∙ ap (plan_seen H) (sym k.after)
 
-    pub fill_head : {j : ℕ} → Turn s h t 1 j → changed 1 q p ≡ p → shape_of q ≡ h → q ≡ plan_after (t + 1)
+    pub fill_head : {j : ℕ} → Turn s h t 1 j → changed 1 q p ≡ p → q.years ≡ h.years → q.instruments ≡ h.instruments → q.terms ≡ h.terms → q.patterns ≡ h.patterns → q ≡ plan_after (t + 1)
     unfolding plan_after plan_seen held_of groups_of count_of
-    fill_head k kept e = next 1 k kept (rw ((sole k (omega arith)).before, ← e))
+    fill_head k kept N n q m = next 1 k kept (rw ((sole k (omega arith)).before, N, n, q, m))
 
     pub fill_instrument : {j : ℕ} {xs : List ℤ} → Turn s h t 2 j → changed 2 q p ≡ p → q.instrument ≡ set p.instrument j (record { payments = xs })
         → xs ≡ amounts_read 30 h.years body → j < 16 → q ≡ plan_after (t + 1)
@@ -212,28 +222,32 @@ module _ (s : List ℕ) (h : Shape) where
         let f = sole k (omega arith) in
         next 6 k kept (rw (f.before, e, handed, body_found f, array_in 16 h.instruments (number_at 4 (record_in s h 6 0).body) 0))
 
-    pub fill_opening : {j : ℕ} → Turn s h t 7 j → changed 7 q p ≡ p → q.opening ≡ amounts_read 30 h.years body → q ≡ plan_after (t + 1)
+    pub fill_opening : {j : ℕ} → Turn s h t 7 j → changed 7 q p ≡ p → q.opening ≡ Some (amounts_read 30 h.years body) → q ≡ plan_after (t + 1)
     unfolding plan_after plan_seen held_of groups_of count_of
     fill_opening k kept e =
         let f = sole k (held_few h.opened) in
+        let opening : List ℤ = table 30 h.years (λ k. H.opening (1 + k)) (pos 0) in
         next 7 k kept
         (rw (
           f.before,
-          held_all h.opened f.few h.years,
+          held_some h.opened f.few None (Some opening),
+          held_some h.opened f.few 0 h.years,
           e,
           handed,
           body_found f,
           array_in 30 h.years (λ k. signed_of 8 (number_at 8 (record_in s h 7 0).body k)) (pos 0),
         ))
 
-    pub fill_cost : {j : ℕ} → Turn s h t 9 j → changed 9 q p ≡ p → q.cost ≡ amounts_read 16 h.instruments body → q ≡ plan_after (t + 1)
+    pub fill_cost : {j : ℕ} → Turn s h t 9 j → changed 9 q p ≡ p → q.cost ≡ Some (amounts_read 16 h.instruments body) → q ≡ plan_after (t + 1)
     unfolding plan_after plan_seen held_of groups_of count_of
     fill_cost k kept e =
         let f = sole k (held_few h.costed) in
+        let cost : List ℤ = table 16 h.instruments (λ j. H.cost (1 + j)) (pos 0) in
         next 9 k kept
         (rw (
           f.before,
-          held_all h.costed f.few h.instruments,
+          held_some h.costed f.few None (Some cost),
+          held_some h.costed f.few 0 h.instruments,
           e,
           handed,
           body_found f,

@@ -1,11 +1,12 @@
 -- The loops of the largest rate and of the bound.
 use mathlib.Core.Path.{◌≡◌, refl, sym, ap, ◌∙◌}
 use mathlib.Core.List.{List}
-use Prim.Native.Nat.{ℕ, ◌+◌, ◌-◌, ◌*◌, ◌≤◌, ◌<◌}
+use Prim.Native.Nat.{ℕ, ◌+◌, ◌-◌, ◌*◌, ◌≤◌, ◌<◌, max}
 use native.Mathlib.Omega.{arith}
 use lib.ListN.{get_or}
-use lib.IntN.{ℤ, pos, negsuc, nat_abs, ◌+ℤ◌, ◌-ℤ◌, ◌*ℤ◌}
-use lib.Signed.{◌≤ℤ◌, ◌<ℤ◌}
+use lib.IntN.{ℤ, pos, nat_abs, ◌+ℤ◌, ◌*ℤ◌}
+use Rattle.std.specs.Int.{int_max}
+use Rattle.std.proofs.lemmas.Int.{ints, int_max_is}
 use Rattle.whole.specs.Range.{million, Between, Within}
 use Rattle.whole.specs.Floor.{floor}
 use Rattle.whole.specs.Sum.{largest}
@@ -17,36 +18,27 @@ use Rattle.reckoning.specs.Arrays.{rates_of, Years, Rates}
 use Rattle.reckoning.proofs.Pattern.{rate_at}
 use Rattle.reckoning.proofs.BoundLaws.{ceiling_high, G_step, G_most, B_most, ceiling_is}
 
--- ---- a number without its sign
-pub abs_under : (z : ℤ) → z <ℤ pos 0 → pos 0 -ℤ z ≡ pos (nat_abs z)
-abs_under (pos n) h = absurd (omega (whole, h))
-abs_under (negsuc n) h = ap pos (omega arith)
-
 -- ---- the largest rate
 abbrev size_of : List ℤ → ℕ → ℕ
 size_of i l = nat_abs (rates_of i (2 + l))
 
 -- most is the largest of the first l rates
-pub record Searched (i : List ℤ) (last : ℕ) (most : ℤ) (l : ℕ) : Type 0 where
-  pub upto : l ≤ last
+pub record Searched (i : List ℤ) (most : ℤ) (l : ℕ) : Type 0 where
   pub is : most ≡ pos (largest l (size_of i))
 
-pub search_start : (i : List ℤ) (last : ℕ) → Searched i last (pos 0) 0
-search_start i last = record { upto = omega arith; is = ap pos (sym (largest_none (size_of i))) }
+pub search_start : (i : List ℤ) → Searched i (pos 0) 0
+search_start i = record { is = ap pos (sym (largest_none (size_of i))) }
 
-module _ (i : List ℤ) (last : ℕ) (most x : ℤ) (l : ℕ) (b : l < last) (s : Searched i last most l) (e : x ≡ pos (nat_abs (get_or i l (pos 0)))) where
-  size_is : x ≡ pos (size_of i l)
-  size_is = rw rate_at e
+max_pos : (a b : ℕ) → int_max (pos a) (pos b) ≡ pos (max a b)
+max_pos a b = omega (arith, ints, int_max_is)
 
-  pub search_above : most <ℤ x → Searched i last x (l + 1)
-  search_above h = record { upto = omega arith; is = omega (whole, s.is, size_is, largest_more l (size_of i)) }
+pub search_turn : (i : List ℤ) (most x : ℤ) (l : ℕ) → Searched i most l → x ≡ int_max most (pos (nat_abs (get_or i l (pos 0)))) → Searched i x (l + 1)
+search_turn i most x l s e =
+    record { is = rw (e, s.is, ← rate_at i l, largest_more l (size_of i)) (max_pos (largest l (size_of i)) (size_of i l)) }
 
-  pub search_under : x ≤ℤ most → Searched i last most (l + 1)
-  search_under h = record { upto = omega arith; is = omega (whole, s.is, size_is, largest_more l (size_of i)) }
-
-pub search_end : (i : List ℤ) (n : ℕ) (most : ℤ) (l : ℕ) → n - 1 ≤ l → Searched i (n - 1) most l → most ≡ pos (largestOf (rates_of i) n)
+pub search_end : (i : List ℤ) (n : ℕ) (most : ℤ) (l : ℕ) → l ≤ n - 1 → n - 1 ≤ l → Searched i most l → most ≡ pos (largestOf (rates_of i) n)
 unfolding largestOf
-search_end i n most l b s = s.is ∙ ap (λ (m : ℕ). pos (largest m (size_of i))) (omega (arith, s.upto))
+search_end i n most l few b s = s.is ∙ ap (λ (m : ℕ). pos (largest m (size_of i))) (omega arith)
 
 pub largest_small : (i : List ℤ) (n : ℕ) → Rates i → Years n → largestOf (rates_of i) n ≤ million
 unfolding largestOf

@@ -20,7 +20,7 @@ use Rattle.reckoning.specs.Bound.{value}
 use Rattle.reckoning.specs.Theorem.{Floors, Rounded}
 use Rattle.reckoning.proofs.Powers.{P}
 use Rattle.reckoning.proofs.Linear.{H_linear, H_scale, H_sum}
-use Rattle.reckoning.proofs.Horizon.{Bracket}
+use Rattle.reckoning.proofs.AtHorizon.{Bracket}
 
 -- ---- flows in whole amounts
 pub flow_floors : (n : ℕ) (a : ℕ → ℕ → ℤ) (c : ℕ → ℤ) (p : ℕ → ℕ) → Floors (flow n a c p) (x n a c p)

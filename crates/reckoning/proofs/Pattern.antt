@@ -1,5 +1,5 @@
--- What a rollover, its weights and a pattern's rates have that are ready to be reckoned: their ranges, their entries by the
--- papers' index, and nothing past the rollover's q terms.
+-- What a rollover and its weights, a pattern's rates and a flow have: their ranges, their entries by the papers' index, and nothing
+-- past the rollover's terms.
 use mathlib.Core.Path.{◌≡◌, ap, ap₂, ◌∙◌}
 use mathlib.Core.List.{List}
 use mathlib.Core.Logic.{⊎_elim}
@@ -19,7 +19,8 @@ use Rattle.whole.proofs.Floor.{share_within, share_none, share_of_none}
 use Rattle.whole.proofs.Sum.{sum_ℕ_more, sum_ℕ_past}
 use Rattle.whole.proofs.Table.{table_at}
 use Rattle.reckoning.specs.Reckoning.{w, sent}
-use Rattle.reckoning.specs.Arrays.{shares_of, rates_of, amounts_of, weights_of, Terms, Ready}
+use Rattle.reckoning.specs.Arrays.{shares_of, rates_of, amounts_of, weights_of, Terms}
+use Rattle.reckoning.specs.declared.Rollover.{Rollover}
 use Rattle.reckoning.proofs.Recursion.{w_le}
 
 -- ---- what a cell sends
@@ -79,17 +80,17 @@ pub amount_at : (f : List ℤ) (k : ℕ) → amounts_of f (1 + k) ≡ get_or f k
 unfolding amounts_of nth
 amount_at f k = let e : 1 + k ≡ suc k = omega arith in rw e
 
-module _ {q : ℕ} {r u i : List ℤ} (ready : Ready q r u i) where
-  pub weight_at : (d : ℕ) → d < 30 → get_or u d (pos 0) ≡ pos (w (shares_of r) d)
+module _ (k : Rollover) where
+  pub weight_at : (d : ℕ) → d < 30 → get_or k.weights d (pos 0) ≡ pos (w (shares_of k.shares) d)
   unfolding weights_of
-  weight_at d l = rw ready.weights (table_at 30 30 (λ d. pos (w (shares_of r) d)) (pos 0) (pos 0) d l (omega arith))
+  weight_at d l = rw k.weighed (table_at 30 30 (λ d. pos (w (shares_of k.shares) d)) (pos 0) (pos 0) d l (omega arith))
 
-  pub weight_within : (d : ℕ) → d < 30 → Within million (get_or u d (pos 0))
-  weight_within d l = rw (weight_at d l) (within_pos (w_le (shares_of r) d))
+  pub weight_within : (d : ℕ) → d < 30 → Within million (get_or k.weights d (pos 0))
+  weight_within d l = rw (weight_at d l) (within_pos (w_le (shares_of k.shares) d))
 
-  pub share_within_at : (d : ℕ) → d < 30 → Within million (get_or r d (pos 0))
-  share_within_at d l = omega (whole, ready.terms.part d l)
+  pub share_within_at : (d : ℕ) → d < 30 → Within million (get_or k.shares d (pos 0))
+  share_within_at d l = omega (whole, k.parts.part d l)
 
   -- no weight is left from place q on
-  pub weight_past : (d : ℕ) → q ≤ d → d < 30 → get_or u d (pos 0) ≡ pos 0
-  weight_past d h l = weight_at d l ∙ ap pos (weight_none ready.terms d h)
+  pub weight_past : (d : ℕ) → k.terms ≤ d → d < 30 → get_or k.weights d (pos 0) ≡ pos 0
+  weight_past d h l = weight_at d l ∙ ap pos (weight_none k.parts d h)

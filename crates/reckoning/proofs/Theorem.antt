@@ -17,7 +17,7 @@ use Rattle.reckoning.specs.Bound.{h, B, value}
 use Rattle.reckoning.specs.Theorem.{Given, Floors, Rounded, FromBelow, Near, Close}
 use Rattle.reckoning.proofs.BoundLaws.{G_below_B}
 use Rattle.reckoning.proofs.Linear.{H_scale}
-use Rattle.reckoning.proofs.Horizon.{from_below_bracket, near_bracket, bracket_near, bracket_from_below, bracket_left, fund_bracket, fund_bracket_nonneg}
+use Rattle.reckoning.proofs.AtHorizon.{from_below_bracket, near_bracket, bracket_near, bracket_from_below, bracket_left, fund_bracket, fund_bracket_nonneg}
 use Rattle.reckoning.proofs.Form.{whole_floors, whole_rounded, form_bracket}
 pub use Rattle.reckoning.proofs.Form.{flow_floors, left_rounded, none_rounded, left_parts}
 

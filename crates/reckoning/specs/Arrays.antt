@@ -7,9 +7,8 @@ use Rattle.whole.specs.Table.{table}
 use Rattle.whole.specs.Entry.{nth}
 use Rattle.reckoning.specs.Reckoning.{w, alpha, fund}
 use Rattle.reckoning.specs.Gamma.{gamma}
-use Rattle.reckoning.specs.declared.Reckoned.{Reckoned}
 use Rattle.reckoning.specs.declared.Row.{Row}
-use Rattle.reckoning.specs.declared.GammaTable.{GammaTable}
+use Rattle.reckoning.specs.Answers.{Reckoned, GammaTable, no_row}
 
 -- ---- an array by the papers' index
 -- r_1 and on
@@ -45,12 +44,6 @@ pub record Amounts (f : List ℤ) : Type 0 where
 -- w(0) to w(29)
 unfoldable pub weights_of : (r : ℕ → ℕ) → List ℤ
 weights_of r = table 30 30 (λ d. pos (w r d)) (pos 0)
-
--- a pattern that is ready to be reckoned: the rollover, its weights, the rates
-pub record Ready (q : ℕ) (r v i : List ℤ) : Type 0 where
-  pub terms : Terms q r
-  pub weights : v ≡ weights_of (shares_of r)
-  pub rates : Rates i
 
 -- ---- the cells and the fund of a flow f
 module _ (r : ℕ → ℕ) (i : ℕ → ℤ) (f : ℕ → ℤ) where
@@ -94,9 +87,6 @@ pub record Joins (n : ℕ) (row earlier : List ℤ) (r u i : ℤ) : Type 0 where
   pub matured : Within million r
   pub invested : Within million u
   pub rate : Within million i
-
-abbrev pub no_row : Row
-no_row = record { values = replicate 30 (pos 0) }
 
 module _ (r : ℕ → ℕ) (i : ℕ → ℤ) (N : ℕ) where
   -- row 2 + j, entries 1 to N

@@ -11,16 +11,16 @@ use borrow.Author.Tests.{le-ltb, lt-ltb, le-leb, lt-leb, leb-true, leb-false, eq
 use lib.Dec.{leb, ltb, eqb}
 use lib.ListN.{length, get_or, take, drop, length-drop}
 use lib.Seq.{length-take-le, take-add, take-length, drop-drop}
+use Rattle.std.specs.Prelude.{Ok, Err}
 use Rattle.whole.specs.Test.{pick, both}
 use Rattle.whole.proofs.Laws.{ℕ_cases}
 use Rattle.whole.proofs.Test.{both_first, both_second}
 use Rattle.little_endian.specs.LittleEndian.{Bytes, le_at}
 use Rattle.little_endian.proofs.LittleEndian.{bytes_of_le_at, bytes_take, bytes_drop}
-use Rattle.records.specs.declared.Next.{Next}
-use Rattle.records.specs.declared.Next.TheVariants.{Record, Stop}
+use Rattle.records.specs.declared.Record.{Record}
 use Rattle.records.specs.Record.{Rec, record_bytes, file_bytes}
 use Rattle.records.specs.Cursor.{size_from, end_from, whole_at, next_at, whole_from, whole_file, place, kind_at, body_at}
-use Rattle.records.proofs.Record.{Small, Stands, stands_between, file_more, file_parts, length_more}
+use Rattle.records.proofs.Records.{Small, Stands, stands_between, file_more, file_parts, length_more}
 
 -- ---- the record at a place
 module _ (s : List ℕ) (at : ℕ) where
@@ -45,36 +45,19 @@ module _ (s : List ℕ) (at : ℕ) where
   ends_past h = leb-false _ _ (sym whole_by_end ∙ h)
 
   -- what the cursor then gives
-  pub next_record : whole_at s at ≡ true → next_at s at ≡ Record (le_at 2 (at + 2) s) (at + 4) (end_from s at)
+  abbrev pub found : Record
+  found = record { kind = le_at 2 (at + 2) s; start = at + 4; end = end_from s at }
+
+  pub next_record : whole_at s at ≡ true → next_at s at ≡ Ok found
   unfolding next_at
   next_record h = rw h
 
-  pub next_stop : whole_at s at ≡ false → next_at s at ≡ Stop (length s - at)
+  pub next_stop : whole_at s at ≡ false → next_at s at ≡ Err (length s - at)
   unfolding next_at
   next_stop h = rw h
 
--- what a record that was found says of its place
-pub record Known (s : List ℕ) (at k a e : ℕ) : Type 0 where
-  pub kind : k ≡ le_at 2 (at + 2) s
-  pub start : a ≡ at + 4
-  pub end : e ≡ end_from s at
-  pub fits : e ≤ length s
-  pub whole : whole_at s at ≡ true
-
 module _ (s : List ℕ) (at : ℕ) where
-  pub next_known : (k a e : ℕ) → next_at s at ≡ Record k a e → Known s at k a e
-  next_known k a e n = go (whole_at s at) refl
-    where
-      go : (b : Bool) → whole_at s at ≡ b → Known s at k a e
-      go true w =
-          let i = next_record s at w in
-          let ek : k ≡ le_at 2 (at + 2) s = cc in
-          let ea : a ≡ at + 4 = cc in
-          let ee : e ≡ end_from s at = cc in
-          record { kind = ek; start = ea; end = ee; fits = omega (arith, whole_end s at w); whole = w }
-      go false w = let i = next_stop s at w in let z : ◌≡◌ {A = ℕ} 0 1 = cc in absurd (omega arith)
-
-  pub next_none : (l : ℕ) → next_at s at ≡ Stop l → (whole_at s at ≡ false) × (l ≡ length s - at)
+  pub next_none : (l : ℕ) → next_at s at ≡ Err l → (whole_at s at ≡ false) × (l ≡ length s - at)
   next_none l n = go (whole_at s at) refl
     where
       go : (b : Bool) → whole_at s at ≡ b → (whole_at s at ≡ false) × (l ≡ length s - at)
@@ -87,10 +70,6 @@ unfolding place
 place_none s = refl
 
 module _ (s : List ℕ) (t : ℕ) where
-  -- what was found at the place reached, which is that of record t
-  pub reached : {at : ℕ} {next x : Next} → at ≡ place s t → next ≡ next_at s at → next ≡ x → next_at s (place s t) ≡ x
-  reached a n e = ap (next_at s) (sym a) ∙ sym n ∙ e
-
   pub place_more : place s (t + 1) ≡ end_from s (place s t)
   unfolding place
   place_more = rw add-one
@@ -102,25 +81,6 @@ module _ (s : List ℕ) (t : ℕ) where
   pub bytes_body : Bytes s → Bytes (body_at s t)
   unfolding body_at
   bytes_body b = bytes_take (size_from s (place s t)) (bytes_drop (place s t + 4) b)
-
-  module _ (k a e : ℕ) (n : next_at s (place s t) ≡ Record k a e) where
-    pub place_next : e ≡ place s (t + 1)
-    place_next = (next_known s (place s t) k a e n).end ∙ sym place_more
-
-    pub kind_next : k ≡ kind_at s t
-    unfolding kind_at
-    kind_next = (next_known s (place s t) k a e n).kind
-
-    -- its body is the part from its start to its end
-    pub body_part : take (e - a) (drop a s) ≡ body_at s t
-    unfolding body_at
-    body_part =
-        let w = next_known s (place s t) k a e n in
-        let d : e - a ≡ size_from s (place s t) = omega (arith, w.start, w.end) in
-        rw (d, w.start)
-
-    pub length_next : e - a ≡ length (body_at s t)
-    length_next = let w = next_known s (place s t) k a e n in omega (arith, w.start, w.end, length_body w.whole)
 
 -- where a record is not whole, no later one is
 pub none_later : (s : List ℕ) (u t : ℕ) → u ≤ t → whole_at s (place s u) ≡ false → whole_at s (place s t) ≡ false
@@ -173,7 +133,7 @@ module _ (s : List ℕ) where
     rest_cut w = rest_more ∙ ap (λ (b : Bool). both b (rest_whole s (end_from s at))) w
 
 -- where no record is found, the rest is whole just where nothing is left
-pub rest_stop : (s : List ℕ) (at l : ℕ) → next_at s at ≡ Stop l → rest_whole s at ≡ eqb l 0
+pub rest_stop : (s : List ℕ) (at l : ℕ) → next_at s at ≡ Err l → rest_whole s at ≡ eqb l 0
 rest_stop s at l n =
     let none = next_none s at l n in
     ⊎_elim

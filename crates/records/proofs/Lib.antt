@@ -1,3 +1,3 @@
 -- The laws of what specs/ defines.
-pub mod Record
+pub mod Records
 pub mod Cursor

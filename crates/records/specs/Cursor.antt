@@ -1,9 +1,8 @@
 -- Records taken off from the front of a file s, whose place 0 is its first byte.
-use Rattle.std.specs.Prelude.{Bool, true, List, ℕ, zero, suc, ◌+◌, ◌-◌, leb, ltb, length, take, drop}
+use Rattle.std.specs.Prelude.{Bool, true, Result, Ok, Err, List, ℕ, zero, suc, ◌+◌, ◌-◌, leb, ltb, length, take, drop}
 use Rattle.whole.specs.Test.{pick, both}
 use Rattle.little_endian.specs.LittleEndian.{le_at}
-use Rattle.records.specs.declared.Next.{Next}
-use Rattle.records.specs.declared.Next.TheVariants.{Record, Stop}
+use Rattle.records.specs.declared.Record.{Record}
 
 -- the length of the body of the record at a place, and where that record ends
 abbrev pub size_from : List ℕ → (at : ℕ) → ℕ
@@ -17,8 +16,8 @@ unfoldable pub whole_at : List ℕ → (at : ℕ) → Bool
 whole_at s at = both (leb (at + 4) (length s)) (leb (end_from s at) (length s))
 
 -- the record at a place: its kind, and where its body starts and ends; or how many bytes are left, which are no record
-unfoldable pub next_at : List ℕ → (at : ℕ) → Next
-next_at s at = pick (whole_at s at) (Record (le_at 2 (at + 2) s) (at + 4) (end_from s at)) (Stop (length s - at))
+unfoldable pub next_at : List ℕ → (at : ℕ) → Result Record ℕ
+next_at s at = pick (whole_at s at) (Ok (record { kind = le_at 2 (at + 2) s; start = at + 4; end = end_from s at })) (Err (length s - at))
 
 -- check 2: from a place on, whole records end with the file. A record takes 4 bytes at least, so the length counts enough.
 unfoldable pub whole_from : (count : ℕ) → List ℕ → (at : ℕ) → Bool

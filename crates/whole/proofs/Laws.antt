@@ -2,7 +2,7 @@
 use mathlib.Core.Path.{◌≡◌, sym, ap, ◌∙◌, subst}
 use mathlib.Core.Bool.{Bool, true, false, not}
 use mathlib.Core.Logic.{◌⊎◌, inl, inr, ⊎_elim}
-use Prim.Native.Nat.{ℕ, zero, ◌+◌, ◌≤◌, ◌<◌}
+use Prim.Native.Nat.{ℕ, zero, suc, ◌+◌, ◌-◌, ◌≤◌, ◌<◌}
 use native.Mathlib.Nat.{mul-le-mul_right, mul-lt-mul_of_pos_right}
 use native.Mathlib.Omega.{arith}
 use lib.Dec.{T, ltb, ltb→lt, nltb→le}
@@ -103,10 +103,6 @@ neg_ℤ_mono {a} {b} h = omega (whole, at (⊝ (# a)), at (⊝ (# b)))
 pub ≤ℤ_sub : {a b : ℤ} → a ≤ℤ b → pos 0 ≤ℤ (b -ℤ a)
 ≤ℤ_sub {a} {b} h = omega (whole, at (# b ⊖ # a))
 
--- a certificate of a ≤ b: a number that is not negative, and that b - a is by the ring solver
-pub by_gap : (a b : ℤ) {g : ℤ} → b -ℤ a ≡ g → pos 0 ≤ℤ g → a ≤ℤ b
-by_gap a b e h = omega (whole, at (# b ⊖ # a))
-
 -- ---- the order and the product
 pub *ℤ_mono : {a b m : ℤ} → pos 0 ≤ℤ m → a ≤ℤ b → (a *ℤ m) ≤ℤ (b *ℤ m)
 *ℤ_mono {a} {b} {m = pos k} z h = omega (whole, at (# a ⊗ # (pos k)), at (# b ⊗ # (pos k)), mul-le-mul_right k (le→ h))
@@ -133,3 +129,7 @@ pub *ℤ_cancel_< : (a b : ℤ) {m : ℤ} → pos 0 ≤ℤ m → (a *ℤ m) <ℤ
 
 pub *ℤ_cancel : (a b : ℤ) {m : ℤ} → pos 0 <ℤ m → a *ℤ m ≡ b *ℤ m → a ≡ b
 *ℤ_cancel a b z e = ≤ℤ_antisymm (*ℤ_cancel_≤ a b z (≤ℤ_of_≡ e)) (*ℤ_cancel_≤ b a z (≤ℤ_of_≡ (sym e)))
+
+-- a number less a larger one
+pub less_more : (x n : ℕ) → x < n → pos x -ℤ pos n ≡ negsuc (n - suc x)
+less_more x n h = omega (whole, at (# (pos x) ⊖ # (pos n)))

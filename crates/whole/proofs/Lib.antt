@@ -10,4 +10,6 @@ pub mod Course
 pub mod Table
 pub mod Filling
 pub mod Entry
+pub mod Made
+pub mod Answer
 pub mod Case

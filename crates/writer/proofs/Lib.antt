@@ -1,10 +1,6 @@
--- The laws of the writer: Record of one record that is put down, front and body; Role of the records by role; Row of those of
--- instruments, patterns, money already invested and the cost at the horizon; Kind of the kind of each record; Laying of the records that are
--- put down one after the other; Length of the length of the file; Left of what `write` answers.
-pub mod Record
-pub mod Role
-pub mod Row
-pub mod Kind
-pub mod Laying
-pub mod Length
+-- The laws of the writer: Put of bytes that are put down, Rows of what is written of an array, File of the records of a plan.
+pub mod Put
+pub mod Rows
+pub mod File
+pub mod Size
 pub mod Left

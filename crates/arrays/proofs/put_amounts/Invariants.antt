@@ -1,12 +1,8 @@
 -- `arrays::put_amounts` puts down row after row (Copying, `Joining`), and then the outflows, the money already invested and the
 -- cost that is left at the horizon.
-use Prim.Native.Nat.{◌-◌}
 use Rattle.plan.specs.Held.{instrument_at}
 use Rattle.arrays.proofs.Copying.{Joining}
 use Rattle.arrays.proofs.put_amounts.Given as goal
 
 abbrev pub invariant-loop-j : goal.invariant-loop-j
 invariant-loop-j l = Joining 556 16 (λ j. (instrument_at l.plan j).payments) l.out l.j
-
-abbrev pub decreases-loop-j : goal.decreases-loop-j
-decreases-loop-j l = 16 - l.j

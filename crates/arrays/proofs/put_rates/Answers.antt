@@ -1,42 +1,40 @@
 -- `arrays::put_rates` puts down row after row (Copying, `Joining`), and then the starts and the steps.
-use mathlib.Core.Path.{◌≡◌}
+use mathlib.Core.Path.{◌≡◌, ◌∙◌}
 use native.Mathlib.Omega.{arith}
 use borrow.Author.Rules.{rules}
-use lib.ListN.{length}
-use Rattle.arrays.specs.Arrays.{all_rates}
-use Rattle.arrays.proofs.Copying.{join_start, join_turn, join_end, front_next, front_all}
+use lib.IntN.{pos}
+use lib.ListN.{get_or}
+use Rattle.plan.specs.Held.{row_start, row_step, missing_pattern}
+use Rattle.arrays.specs.Arrays.{of_each, starts_of, steps_of, all_rates}
+use Rattle.whole.proofs.Made.{made_whole}
+use Rattle.arrays.proofs.Copying.{join_start, join_turn, join_end, front_part, front_all, length_each}
 use Rattle.arrays.proofs.put_rates.Goals as goal
+use Rattle.arrays.proofs.put_rates.Goals.{After-copy_from_slice-2}
+
+pub loop-t-init : goal.loop-t-init
+loop-t-init c = join_start c.told-out
 
 pub loop-t-preserved : goal.loop-t-preserved
 loop-t-preserved c =
-    let b = c.before in
-    let r = b.before.before in
-    let t = r.before.before in
-    let few : length r.rates_in-rates.result ≡ 30 = search rules in
-    join_turn (omega arith) t.loop-t-test.true t.before.loop-t.invariant b.copy_i32-arg-1.given.0.1 r.rates_in-rates.ensures few c.copy_i32.ensures
+    let thirty = c.put_row.ensures.thirty in
+    join_turn (omega arith) c.loop-t-test.true c.loop-t.invariant (rw c.rates_in.ensures at thirty) (rw c.rates_in.ensures at c.put_row.ensures.is)
+
+starts : (c : Unit {0} → After-copy_from_slice-2) → (c tt).from_fn.result ≡ starts_of (c tt).args.plan.now.pattern
+unfolding of_each
+starts c =
+    let rows = (c tt).args.plan.now.pattern in
+    made_whole (c tt).from_fn.ensures.items (λ t. row_start (get_or rows t missing_pattern)) (pos 0) (λ t start q h called. (search rules, search rules))
+
+steps : (c : Unit {0} → After-copy_from_slice-2) → (c tt).from_fn-2.result ≡ steps_of (c tt).args.plan.now.pattern
+unfolding of_each
+steps c =
+    let rows = (c tt).args.plan.now.pattern in
+    made_whole (c tt).from_fn-2.ensures.items (λ t. row_step (get_or rows t missing_pattern)) (pos 0) (λ t step q h called. (search rules, search rules))
 
 pub returns : goal.returns
 unfolding all_rates
 returns c =
-    let b = c.before in
-    let p = b.before.before in
-    let o = p.before in
-    let a = o.before in
-    let s = a.before.before in
-    let l = s.before in
-    let starts-few : length s.starts_of-starts.result ≡ 64 = search rules in
-    let steps-few : length p.steps_of-steps.result ≡ 64 = search rules in
-    let front = front_next s.starts_of-starts.ensures (join_end l.loop-t-test.false l.before.loop-t.invariant) (omega arith) a.copy_i32-arg-2-1.given.0.1 starts-few o.copy_i32-2.ensures in
-    front_all (omega arith) (front_next p.steps_of-steps.ensures front (omega arith) b.copy_i32-arg-3-1.given.0.1 steps-few c.copy_i32-3.ensures)
-
-pub loop-t-init : goal.loop-t-init
-loop-t-init c = join_start
-
-pub copy_i32-requires : goal.copy_i32-requires
-copy_i32-requires c = let few : length c.before.before.rates_in-rates.result ≡ 30 = search rules in omega arith
-
-pub copy_i32-requires-2 : goal.copy_i32-requires-2
-copy_i32-requires-2 c = let few : length c.before.before.starts_of-starts.result ≡ 64 = search rules in omega arith
-
-pub copy_i32-requires-3 : goal.copy_i32-requires-3
-copy_i32-requires-3 c = let few : length c.before.before.steps_of-steps.result ≡ 64 = search rules in omega arith
+    let rows = c.args.plan.now.pattern in
+    let all = join_end c.loop-t-test.false c.loop-t.invariant in
+    let more = front_part (starts_of rows) all (omega arith) (length_each _ _ rows) (c.copy_from_slice.ensures.after ∙ starts (λ _. c)) in
+    front_all (front_part (steps_of rows) more (omega arith) (length_each _ _ rows) (c.copy_from_slice-2.ensures.after ∙ steps (λ _. c)))

@@ -1,31 +1,26 @@
--- `finder::find_accepted` makes check 15, and searches (Answer).
-use mathlib.Core.Path.{◌≡◌, sym, ◌∙◌}
-use mathlib.Core.Bool.{true}
+-- `finder::find_accepted` makes check 15, and then searches.
+use mathlib.Core.Path.{sym, ap, ◌∙◌}
+use Prim.Native.Nat.{ℕ}
 use native.Mathlib.Omega.{arith}
-use Rattle.finder.specs.Find.{is_among, parts_taken}
-use Rattle.finder.proofs.Parts.{parts_have}
+use Rattle.plan.specs.Numbers.{numbers}
+use Rattle.finder.specs.Find.{solvent_with, first_that}
+use Rattle.finder.specs.Grid.{allocations}
+use Rattle.finder.proofs.Parts.{among_many}
 use Rattle.finder.proofs.Answer.{find_uneven, find_crowded, find_searched}
 use Rattle.finder.proofs.find_accepted.Goals as goal
-use Rattle.finder.proofs.find_accepted.Goals.{Else-n-gt4}
 
-pub returns-then-not-is_taken : goal.returns-then-not-is_taken
-returns-then-not-is_taken c =
-    let t = c.before.before in
-    find_uneven _ _ t.before.requires (sym t.is_taken.ensures ∙ c.before.if-not-is_taken.true) c.not_found.ensures
+pub returns-in-Ok : goal.returns-in-Ok
+returns-in-Ok c =
+    let same = c.in-Ok.ensures.1 in
+    c.search.ensures
+    ∙ ap (λ (D : ℕ). first_that (solvent_with (numbers c.args.plan.plan.now)) (allocations c.args.plan.plan.now.instruments D)) same
+    ∙ find_searched _ _ c.args.plan.accepted (rw same at (sym c.if-is_taken.ensures)) c.if-plan-le4.true
 
-pub returns-then-n-gt4 : goal.returns-then-n-gt4
-returns-then-n-gt4 c = find_crowded _ _ c.before.before.before.before.requires c.before.if-n-gt4.true c.not_found-then-n-gt4.ensures
+pub returns-in_default : goal.returns-in_default
+returns-in_default c = find_crowded _ _ c.args.plan.accepted (omega (arith, c.if-plan-le4.false))
 
--- check 15 has passed
-taken : (c : Else-n-gt4) → is_among parts_taken c.before.before.before.args.parts ≡ true
-taken c = sym c.before.before.is_taken.ensures ∙ c.before.if-not-is_taken.false
+pub returns-in_default-2 : goal.returns-in_default-2
+returns-in_default-2 c = find_uneven _ _ c.args.plan.accepted (rw c.in-Ok.ensures.1 at (sym c.if-is_taken.ensures))
 
-pub overflow_cast-parts : goal.overflow_cast-parts
-overflow_cast-parts c = omega (arith, (parts_have _ (taken c)).few)
-
-pub search-requires : goal.search-requires
-search-requires c =
-    record { accepted = c.before.before.before.requires; instruments_bound = c.if-n-gt4.false; parts_value = taken c }
-
-pub returns : goal.returns
-returns c = find_searched _ _ c.before.before.before.before.requires (taken c.before) c.before.if-n-gt4.false c.search.ensures
+pub returns-in_default-3 : goal.returns-in_default-3
+returns-in_default-3 c = let large = c.in_default.ensures in find_uneven _ _ c.args.plan.accepted (among_many _ (omega arith))

@@ -1,29 +1,27 @@
--- `listing::list` puts down a refusal's line, or the text of the judgement on the plan that was read.
+-- `listing::list` puts down a refusal's line, or the text of the plan that was read.
+use mathlib.Core.Path.{sym, ap, ◌∙◌}
 use native.Mathlib.Omega.{arith}
 use borrow.Author.Rules.{rules}
 use Rattle.little_endian.proofs.LittleEndian.{bytes_lent}
 use Rattle.little_endian.proofs.Wrote.{wrote_as}
-use Rattle.planfile.proofs.Answers.{accepted_read}
-use Rattle.listing.proofs.File.{text_refused, text_judged}
+use Rattle.listing.specs.Shown.{accepted_shown}
+use Rattle.listing.proofs.File.{text_read, text_refused}
 use Rattle.listing.proofs.Putting.{listed}
 use Rattle.listing.proofs.Demands.{demands}
 use Rattle.listing.proofs.list.Goals as goal
+use Rattle.listing.proofs.list.Goals.{in-Ok, in-Err}
 
-pub returns-then-no-ne0 : goal.returns-then-no-ne0
-returns-then-no-ne0 c =
-    let l = listed (omega arith) (search rules) (wrote_as (text_refused _ c.read-found.ensures.is c.if-no-ne0.true) c.put_refused.ensures.wrote) in
-    record { is = l.0; counts = l.1; demands = demands (bytes_lent c.shared_slice_known-1.given) }
+pub shape_of-out : goal.shape_of-out
+shape_of-out c = elim c.match-accepted_in.branch [
+  | in-Ok w ↦ sym (ap (λ t. t.buffer.ghost_name) w.text-is ∙ w.plan.ensures.same)
+  | in-Err w ↦ sym (ap (λ t. t.buffer.ghost_name) w.text-is ∙ w.refused.ensures.same)
+]
 
-pub judge_accepted-requires : goal.judge_accepted-requires
-judge_accepted-requires c = accepted_read _ c.read-found.ensures.is c.if-no-ne0.false
+pub returns-clause-is : goal.returns-clause-is
+returns-clause-is c = elim c.match-accepted_in.branch [
+  | in-Ok w ↦ rw w.text-is (listed (omega (arith, w.plan.ensures.few)) (search rules) (wrote_as (text_read _ w.in-Ok.ensures) w.plan.ensures.wrote)).0
+  | in-Err w ↦ rw w.text-is (listed (omega (arith, w.refused.ensures.few)) (search rules) (wrote_as (text_refused _ _ w.in-Err.ensures) w.refused.ensures.wrote)).0
+]
 
-pub put_judgement-requires : goal.put_judgement-requires
-put_judgement-requires c =
-    let h = (accepted_read _ c.read-found.ensures.is c.if-no-ne0.false).head in
-    record { m_bound = h.patterns_few; n_bound = h.instruments_few; in_bounds = search rules }
-
-pub returns : goal.returns
-returns c =
-    let t = text_judged _ c.read-found.ensures.is c.if-no-ne0.false c.judge_accepted.ensures in
-    let l = listed (omega arith) (search rules) (wrote_as t c.put_judgement.ensures.wrote) in
-    record { is = l.0; counts = l.1; demands = demands (bytes_lent c.shared_slice_known-1.given) }
+pub returns-clause-demands : goal.returns-clause-demands
+returns-clause-demands c = demands (bytes_lent c.type_inv.file)

@@ -1,29 +1,14 @@
--- `listing::lowest_short` is at most 65.
-use Prim.Native.Nat.{◌+◌}
-use native.Mathlib.Omega.{arith}
+-- `listing::lowest_short` goes by whether a bit is set.
+use mathlib.Core.Path.{◌∙◌}
 use borrow.Author.Tests.{eq-eqb, ne_eqb}
-use lib.Count.{count_trailing_zeros, trailing_le}
-use lib.IntN.{pos}
-use mir.Syntax.{w64}
-use mir.Val.{SFits}
-use Rattle.whole.proofs.Range.{pos64}
+use Rattle.whole.proofs.Range.{back, ok64}
 use Rattle.listing.specs.Text.{lowest_short}
 use Rattle.listing.proofs.lowest_short.Goals as goal
-use Rattle.listing.proofs.lowest_short.Goals.{Else-bits-eq0}
 
 pub returns-then-bits-eq0 : goal.returns-then-bits-eq0
 unfolding lowest_short
-returns-then-bits-eq0 c = rw (eq-eqb c.before.args.bits 0 c.if-bits-eq0.true)
-
-pub overflow_add-result : goal.overflow_add-result
-overflow_add-result c = record { fits = omega (arith, trailing_le 64 c.before.args.bits) }
-
-few : (c : Else-bits-eq0) → SFits w64 (pos (count_trailing_zeros 64 c.before.args.bits + 1))
-few c = record { sfits = omega (arith, trailing_le 64 c.before.args.bits) }
-
-pub overflow_cast-result : goal.overflow_cast-result
-overflow_cast-result c = few c
+returns-then-bits-eq0 c = rw (eq-eqb c.args.bits 0 c.if-bits-eq0.true)
 
 pub returns : goal.returns
 unfolding lowest_short
-returns c = rw (ne_eqb c.before.args.bits 0 c.if-bits-eq0.false) (pos64 (few c))
+returns c = rw (ne_eqb c.args.bits 0 c.if-bits-eq0.false) (back (ok64 c.from.result c.from.type_inv) ∙ c.from.ensures)

@@ -1,21 +1,22 @@
--- `patterns::payments_of` fills in what each instrument means.
-use mathlib.Core.Path.{sym, ap}
-use Rattle.whole.proofs.Filling.{fill_start, fill_turn, fill_as}
-use Rattle.plan.specs.Numbers.{payments_meant}
-use Rattle.plan.proofs.Held.{instrument_is}
-use Rattle.patterns.specs.Arrays.{payments_row, payments_rows}
+-- `patterns::payments_of` takes what the instrument pays (Held).
+use mathlib.Core.Path.{◌≡◌, sym, ◌∙◌}
+use Rattle.plan.specs.Numbers.{numbers}
+use Rattle.patterns.specs.Arrays.{payments_row}
+use Rattle.patterns.proofs.Held.{payments_row_law, no_amounts, row_is, row_past, payments_fit}
 use Rattle.patterns.proofs.payments_of.Goals as goal
+use Rattle.patterns.proofs.payments_of.Goals.{After-payments}
 
-pub loop-j-init : goal.loop-j-init
-loop-j-init c = fill_start
+pub invariant_of-result : goal.invariant_of-result
+invariant_of-result c = record { within = no_amounts }
 
-pub loop-j-preserved : goal.loop-j-preserved
-loop-j-preserved c =
-    let turn = c.before.before in
-    fill_turn turn.before.before.before.requires.head.instruments_few turn.loop-j-test.true turn.before.loop-j.invariant c.payments.ensures
+pub returns-then-j-plan : goal.returns-then-j-plan
+returns-then-j-plan c = sym (row_past c.args.plan.plan.now c.args.plan.accepted c.args.j c.if-j-plan.true c.requires)
+
+row : (c : After-payments) → c.payments.result ≡ payments_row (numbers c.args.plan.plan.now) c.args.j
+row c = c.payments.ensures ∙ payments_row_law c.args.plan.plan.now c.args.j c.if-j-plan.false
+
+pub invariant_of-result-2 : goal.invariant_of-result-2
+invariant_of-result-2 c = record { within = rw (row c) (payments_fit c.args.plan.plan.now c.args.plan.accepted c.args.j) }
 
 pub returns : goal.returns
-unfolding payments_rows payments_row
-returns c =
-    let plan = c.before.before.before.args.plan in
-    fill_as c.loop-j-test.false c.before.loop-j.invariant (λ j h. ap (payments_meant plan.years) (sym (instrument_is plan j h)))
+returns c = row c.before ∙ sym (row_is c.args.plan.plan.now c.args.plan.accepted c.args.j c.if-j-plan.false)

@@ -1,30 +1,32 @@
--- `planfile::spot_at` goes from group to group: record t of all groups is record `left` of those from group g on.
-use mathlib.Core.Path.{refl, sym, ap, ◌∙◌}
+-- `planfile::spot_at` goes from group to group: record t of all groups is record `index` of those from a group on.
+use mathlib.Core.Path.{◌≡◌, sym, ap, ◌∙◌}
 use mathlib.Core.List.{List}
 use native.Mathlib.Omega.{arith}
+use borrow.Author.Rules.{rules}
 use lib.ListN.{length}
-use Rattle.planfile.specs.Groups.{spot_at}
-use Rattle.planfile.specs.declared.Group.{Group}
-use Rattle.planfile.proofs.Groups.{length_groups, spot_first, spot_rest, spot_none}
+use Rattle.planfile.specs.Groups.{Group, groups_of, groups_shown, spot_at}
+use Rattle.planfile.proofs.Groups.{spot_first, spot_rest, spot_none}
 use Rattle.planfile.proofs.spot_at.Goals as goal
+use Rattle.planfile.proofs.spot_at.Goals.{After-groups_of-group-items}
 
-pub loop-g-init : goal.loop-g-init
-loop-g-init c = (omega arith, ap length c.groups_of-groups.ensures ∙ length_groups c.before.args.shape, refl)
+module _ (c : After-groups_of-group-items) where
+  here : spot_at (groups_shown c.groups_of-group-items.result) c.args.t ≡ spot_at (groups_of c.args.shape) c.args.t
+  here = ap (λ (gs : List Group). spot_at gs c.args.t) c.groups_of-group-items.ensures
 
-pub returns-then-left-count : goal.returns-then-left-count
-returns-then-left-count c =
-    let l = c.before.before.before.loop-g in
-    let g = c.before.before.before.before.groups_of-groups in
-    sym (ap (λ (gs : List Group). spot_at gs c.before.before.before.before.before.args.t) (sym g.ensures) ∙ l.invariant.2 ∙ spot_first g.result _ l.g (omega (arith, l.invariant.1)) l.left c.if-left-count.true)
+  few : length c.groups_of-group-items.result ≡ 8
+  few = search rules
 
-pub loop-g-preserved : goal.loop-g-preserved
-loop-g-preserved c =
-    let l = c.before.before.before.loop-g in
-    let g = c.before.before.before.before.groups_of-groups in
-    (omega arith, l.invariant.1, l.invariant.2 ∙ spot_rest g.result _ l.g (omega (arith, l.invariant.1)) l.left c.if-left-count.false)
+pub returns-then-index-group : goal.returns-then-index-group
+returns-then-index-group c =
+    let d = (goal.at.returns-then-index-group c).After-groups_of-group-items in
+    sym (sym (here d) ∙ c.loop-group.invariant ∙ spot_first c.groups_of-group-items.result _ c.loop-group.group-index (omega (arith, few d)) c.loop-group.index c.if-index-group.true)
+
+pub loop-group-preserved : goal.loop-group-preserved
+loop-group-preserved c =
+    let d = (goal.at.loop-group-preserved c).After-groups_of-group-items in
+    c.loop-group.invariant ∙ spot_rest c.groups_of-group-items.result _ c.loop-group.group-index (omega (arith, few d)) c.loop-group.index c.if-index-group.false
 
 pub returns : goal.returns
 returns c =
-    let l = c.before.loop-g in
-    let g = c.before.before.groups_of-groups in
-    sym (ap (λ (gs : List Group). spot_at gs c.before.before.before.args.t) (sym g.ensures) ∙ l.invariant.2 ∙ spot_none g.result l.g l.left (omega (arith, l.invariant.1)))
+    let d = (goal.at.returns c).After-groups_of-group-items in
+    sym (sym (here d) ∙ c.loop-group.invariant ∙ spot_none c.groups_of-group-items.result c.loop-group.group-index c.loop-group.index (omega (arith, few d)))

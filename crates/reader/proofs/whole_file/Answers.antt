@@ -1,34 +1,35 @@
--- The loop's invariant: the file is whole just where it is whole from the place reached on. A record takes four bytes at least, so
--- that what is left of the file falls.
-use mathlib.Core.Path.{sym, ◌∙◌}
-use mathlib.Core.List.{List}
-use Prim.Native.Nat.{ℕ}
+-- `whole_file` finds where the last record ends.
+use mathlib.Core.Path.{◌≡◌, sym, ap, ◌∙◌}
 use native.Mathlib.Omega.{arith}
-use Rattle.records.proofs.Cursor.{Known, next_known, rest_all, rest_next, rest_stop}
+use borrow.Author.Tests.{eq-eqb, ne_eqb}
+use lib.Dec.{eqb}
+use lib.ListN.{length}
+use Rattle.records.specs.Cursor.{whole_file}
+use Rattle.records.proofs.Cursor.{rest_all}
+use Rattle.reader.specs.declared.Walk.{Walk}
+use Rattle.reader.proofs.Walks.{rest_goes, rest_ends}
 use Rattle.reader.proofs.whole_file.Goals as goal
-use Rattle.reader.proofs.whole_file.Goals.{In-Record}
+use Rattle.reader.proofs.whole_file.Goals.{In-None}
 
-pub loop-end-init : goal.loop-end-init
-loop-end-init c = rest_all c.args.file.now
+pub loop-record-init : goal.loop-record-init
+loop-record-init c =
+    let e = c.into_iter-record-iterator.ensures.into_iter_gives ∙ c.of-record-items.ensures in
+    (tt, tt, ap (λ (w : Walk). w.file.now) e, ap (λ (w : Walk). w.at) e, omega arith, rest_all _)
 
--- a turn, from the record that was found
-module _ (c : In-Record) where
-  abbrev s : List ℕ
-  s = c.args.file.now
+pub loop-record-preserved : goal.loop-record-preserved
+loop-record-preserved c =
+    let l = c.loop-record.invariant in
+    let g = c.in-Some.ensures.steps in
+    let r = rest_goes _ l.2 l.3 g in
+    (tt, tt, rw g.file l.2, g.at ∙ sym g.end, r.0, l.5 ∙ r.1)
 
-  abbrev at : ℕ
-  at = c.loop-end.at
+-- no record is left
+module _ (c : In-None) where
+  left : whole_file c.args.file.now ≡ eqb c.loop-record.end (length c.args.file.now)
+  left = let l = c.loop-record.invariant in l.5 ∙ rest_ends c.loop-record.record-iterator l.2 l.3 c.in-None.ensures.steps.0 l.4
 
-  found : Known s at c.in-Record.kind c.in-Record.start c.in-Record.end
-  found = next_known s at _ _ _ (sym c.record_at-next.ensures ∙ c.in-Record.is)
+pub returns-then-end-file : goal.returns-then-end-file
+returns-then-end-file c = rw (left (goal.at.returns-then-end-file c).In-None, eq-eqb _ _ c.if-end-file.true)
 
-pub loop-end-smaller : goal.loop-end-smaller
-loop-end-smaller c = omega (arith, (found c).end, (found c).fits)
-
-pub loop-end-preserved : goal.loop-end-preserved
-loop-end-preserved c = rw (found c).end (c.loop-end.invariant ∙ rest_next (s c) (at c) (omega (arith, (found c).end, (found c).fits)) (found c).whole)
-
-pub returns-in-Stop : goal.returns-in-Stop
-returns-in-Stop c =
-    let s = c.args.file.now in
-    sym (c.loop-end.invariant ∙ rest_stop s c.loop-end.at _ (sym c.record_at-next.ensures ∙ c.in-Stop.is))
+pub returns-else-end-file : goal.returns-else-end-file
+returns-else-end-file c = rw (left (goal.at.returns-else-end-file c).In-None, ne_eqb _ _ c.if-end-file.false)

@@ -26,9 +26,8 @@ module _ (c : After-share-invested) where
   invested_limit : Within limit c.share-invested.result
   invested_limit = rw invested_is (invested_within _ _ _ _ s.requires.within s.requires.within_2 s.requires.within_3 s.requires.within_4)
 
-pub share-interest-requires : goal.share-interest-requires
-share-interest-requires c =
-    record { within = simp (back, (s c).ranges.i, invested_fits c) (invested_limit c); within_2 = simp (back, (s c).ranges.i, invested_fits c) ((s c).requires.within_4) }
+pub share-interest-requires-clause-within : goal.share-interest-requires-clause-within
+share-interest-requires-clause-within c = simp (back, invested_fits c) (invested_limit c)
 
 -- the sum
 module _ (c : After-share-matured) where

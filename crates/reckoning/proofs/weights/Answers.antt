@@ -1,28 +1,20 @@
 -- `reckoning::weights` fills in what is left of 1,000,000 after each share (CellLoops, `Weighed`).
-use lib.ListN.{get_or}
-use lib.IntN.{pos, ◌-ℤ◌}
-use mir.Syntax.{w64}
-use mir.Val.{SFits, to_z}
 use Rattle.whole.proofs.Range.{back}
 use Rattle.reckoning.proofs.CellLoops.{weigh_start, term_fits, left_fits, weigh_turn, weigh_end}
 use Rattle.reckoning.proofs.weights.Goals as goal
-use Rattle.reckoning.proofs.weights.Goals.{After-left-1}
 
 pub loop-d-init : goal.loop-d-init
-loop-d-init c = weigh_start c.requires
-
-module _ (c : After-left-1) where
-  r_fits : SFits w64 (get_or c.before.before.before.args.r c.before.before.loop-d.d (pos 0))
-  r_fits = term_fits c.before.before.before.requires c.before.loop-d-test.true c.before.before.loop-d.invariant
-
-  next_fits : SFits w64 (to_z w64 c.before.before.loop-d.left-bits -ℤ get_or c.before.before.before.args.r c.before.before.loop-d.d (pos 0))
-  next_fits = left_fits c.before.before.before.requires c.before.loop-d-test.true c.before.before.loop-d.invariant
+loop-d-init c = weigh_start c.requires.1
 
 pub overflow_sub-left : goal.overflow_sub-left
-overflow_sub-left c = simp (back, r_fits c) (next_fits c)
+overflow_sub-left c =
+    let l = c.loop-d-test.true in
+    simp (back, term_fits c.requires.1 l) (left_fits c.requires.1 l c.loop-d.invariant)
 
 pub loop-d-preserved : goal.loop-d-preserved
-loop-d-preserved c = simp (back, r_fits c, next_fits c) (weigh_turn c.before.before.before.requires c.before.loop-d-test.true c.before.before.loop-d.invariant)
+loop-d-preserved c =
+    let l = c.loop-d-test.true in
+    simp (back, term_fits c.requires.1 l, left_fits c.requires.1 l c.loop-d.invariant) (weigh_turn c.requires.1 l c.loop-d.invariant)
 
 pub returns : goal.returns
-returns c = weigh_end c.before.before.requires c.loop-d-test.false c.before.loop-d.invariant
+returns c = weigh_end c.loop-d.auto.d-end c.loop-d-test.false c.loop-d.invariant

@@ -1,48 +1,58 @@
 -- `writer::write` goes by its checks, and each way out of it is a law.
-use mathlib.Core.Path.{◌≡◌, sym, ◌∙◌}
-use native.Mathlib.Omega.{arith}
-use Rattle.plan.specs.Held.{shape_of, held, Typed}
-use Rattle.plan.specs.Numbers.{numbers}
-use Rattle.plan.specs.Refusal.{refusal_of}
-use Rattle.plan.proofs.Checks.{accepted}
-use Rattle.planfile.specs.Reading.{InRange}
-use Rattle.planfile.proofs.Checks.{head_range}
-use Rattle.writer.proofs.Left.{refused_plan, refused_short, written}
+use mathlib.Core.Path.{◌≡◌, refl, sym, ap, ap₂, ◌∙◌, subst}
+use Prim.Native.Nat.{ℕ}
+use borrow.Author.Rules.{rules}
+use lib.ListN.{length}
+use lib.Seq.{sets}
+use Rattle.plan.specs.declared.Plan.{Plan}
+use Rattle.plan.specs.Held.{held, Typed}
+use Rattle.planfile.specs.Records.{file_of}
+use Rattle.std.proofs.lemmas.Result.{err_from_is_err_and}
+use Rattle.writer.specs.declared.Pen.{Pen}
+use Rattle.writer.specs.Put.{Put}
+use Rattle.writer.proofs.Left.{plan_is, plan_left, short_is, short_left, written_is, written_left, written_kept}
 use Rattle.writer.proofs.write.Goals as goal
-use Rattle.writer.proofs.write.Goals.{Else-refusal-ne0}
 
-pub returns-then-refusal-ne0 : goal.returns-then-refusal-ne0
-returns-then-refusal-ne0 c =
-    let w = refused_plan _ _ c.before.refusal-refusal.ensures.is c.if-refusal-ne0.true in
-    record { is = w.0; left = w.1.0; kept = w.1.1 }
+pub returns-in_err-accepted-clause-is : goal.returns-in_err-accepted-clause-is
+returns-in_err-accepted-clause-is c =
+    let p = err_from_is_err_and c.from_residual.result c.from_residual.ensures.1 in
+    rw (p.1, p.2) (plan_is _ _ _ c.in_err-accepted.ensures.is)
 
--- the plan is not refused
-module _ (c : Else-refusal-ne0) where
-  ok : refusal_of (numbers c.before.before.before.args.plan) ≡ 0
-  ok = sym c.before.refusal-refusal.ensures.is ∙ c.if-refusal-ne0.false
+pub returns-in_err-accepted-clause-left : goal.returns-in_err-accepted-clause-left
+returns-in_err-accepted-clause-left c = plan_left _ _ _ c.in_err-accepted.ensures.is
 
-  typed : Typed c.before.before.before.args.plan
-  typed = c.before.refusal-refusal.ensures.typed c.if-refusal-ne0.false
+-- the length, of the plan that was accepted
+length_is : {plan plan' : Plan} {n : ℕ} → plan ≡ plan' → n ≡ length (file_of (held plan)) → n ≡ length (file_of (held plan'))
+length_is e h = h ∙ ap (λ (plan : Plan). length (file_of (held plan))) e
 
-  range : InRange (shape_of c.before.before.before.args.plan)
-  range = head_range (held c.before.before.before.args.plan) (accepted _ ok).head
+pub returns-then-buffer-length-clause-is : goal.returns-then-buffer-length-clause-is
+returns-then-buffer-length-clause-is c =
+    let ok = c.in_ok-accepted.ensures in
+    short_is _ _ (sym ok.is) (length_is ok.plan c.file_size-length.ensures) c.if-buffer-length.true
 
-pub file_size-length-requires : goal.file_size-length-requires
-file_size-length-requires c = range c
+pub returns-then-buffer-length-clause-left : goal.returns-then-buffer-length-clause-left
+returns-then-buffer-length-clause-left c =
+    let ok = c.in_ok-accepted.ensures in
+    short_left _ _ (sym ok.is) (length_is ok.plan c.file_size-length.ensures) c.if-buffer-length.true
 
-pub returns-then-buffer-length : goal.returns-then-buffer-length
-returns-then-buffer-length c =
-    let w = refused_short _ _ (ok (goal.at.returns-then-buffer-length c).Else-refusal-ne0) c.file_size-length.ensures c.if-buffer-length.true in
-    record { is = w.0; left = w.1.0; kept = w.1.1 }
+pub returns-clause-is : goal.returns-clause-is
+returns-clause-is c =
+    let ok = c.in_ok-accepted.ensures in
+    written_is _ _ (sym ok.is) (length_is ok.plan c.file_size-length.ensures) c.if-buffer-length.false refl
 
-pub put_file-requires : goal.put_file-requires
-put_file-requires c = record {
-  in_range = range (goal.at.put_file-requires c).Else-refusal-ne0;
-  room = record { fits = omega (arith, c.file_size-length.ensures) };
-}
+-- what the pen put down is in the buffer
+put_is : {plan plan' : Plan} {p q : Pen} → plan ≡ plan' → p.at ≡ 0 → Put p q (file_of (held plan)) → q.buffer.now ≡ sets p.buffer.now 0 (file_of (held plan'))
+put_is {p = p} e z a = a.wrote.is ∙ ap₂ (λ (at : ℕ) (plan : Plan). sets p.buffer.now at (file_of (held plan))) z e
 
-pub returns : goal.returns
-returns c =
-    let d = (goal.at.returns c).Else-refusal-ne0 in
-    let w = written _ _ (ok d) (typed d) c.file_size-length.ensures c.put_file.ensures.is c.if-buffer-length.false in
-    record { is = w.0; left = w.1.0; kept = w.1.1 }
+pub returns-clause-left : goal.returns-clause-left
+returns-clause-left c =
+    let ok = c.in_ok-accepted.ensures in
+    let same = sym c.file.ensures.same in
+    written_left _ _ (sym ok.is) (length_is ok.plan c.file_size-length.ensures) c.if-buffer-length.false (search rules ∙ put_is ok.plan refl c.file.ensures)
+
+pub returns-clause-kept : goal.returns-clause-kept
+returns-clause-kept c =
+    let ok = c.in_ok-accepted.ensures in
+    let same = sym c.file.ensures.same in
+    written_kept _ _ (sym ok.is) (length_is ok.plan c.file_size-length.ensures) c.if-buffer-length.false (search rules ∙ put_is ok.plan refl c.file.ensures)
+    (subst Typed ok.plan c.in_ok-accepted.accepted.typed)

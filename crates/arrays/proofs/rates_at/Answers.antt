@@ -1,8 +1,0 @@
--- `arrays::rates_at` copies thirty rates into an array that they fill.
-use mathlib.Core.List.{append-nil}
-use Rattle.arrays.specs.Arrays.{values_at}
-use Rattle.arrays.proofs.rates_at.Goals as goal
-
-pub returns : goal.returns
-unfolding values_at
-returns c = simp append-nil at c.before.copy_i32.ensures
