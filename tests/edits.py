@@ -3,6 +3,7 @@ import collections
 import functools
 import glob
 import os
+import re
 
 import sources
 
@@ -65,7 +66,10 @@ def wrongs(edit):
 
 
 def checked_as(edit, file, function):
-    """The name by which a check prints a function of a file: its crate, its module, its type and its own."""
+    """The name by which a check prints a function of a file: its crate, the module of its type or else its own, its type and its own."""
+    kind = re.compile(rf"(?m)^(?:pub )?(?:struct|enum|trait) {function.owner}\b") if function.owner else None
+    others = below(os.path.join(ROOT, "crates", edit.crate), "src/**/*.rt")
+    file = next((path for path, text in others.items() if kind and kind.search(text)), file)
     modules = [part for part in file.removeprefix("src/").removesuffix(".rt").split("/") if part not in ("lib", "main", "mod")]
     return "::".join([edit.crate, *modules, function.path])
 
