@@ -24,6 +24,7 @@ ghost use Rattle.finder.specs.Claims.{FindTrue};
 ghost use Rattle.finder.specs.Alike.{FindAlike};
 ghost use Rattle.becketgrape.specs.Calls.{fund_of_file, bound_of_file, form_of_file, gammas_of_file, verdict_of_file, cash_of_file, find_of_file};
 ghost use Rattle.becketgrape.specs.Level.{LevelOfFile};
+ghost use Rattle.becketgrape.specs.Alike.{WriteAlike};
 
 use arrays::PlanArrays;
 use cash::CashAccount;
@@ -97,7 +98,8 @@ pub extern "C" fn planner_read(
     number_in(&found)
 }
 
-// The file of a plan that arrays hold, in the first bytes of `buffer`, and its length; on a refusal the buffer is untouched.
+// The file of a plan that arrays hold, in the first bytes of `buffer`, and its length; on a refusal the buffer is untouched. What the arrays
+// carry where nothing is held plays no part.
 #[unsafe(no_mangle)]
 pub extern "C" fn planner_write(
     counts: &[usize; 134],
@@ -113,6 +115,7 @@ pub extern "C" fn planner_write(
         ≡ buffer_after (plan_of_arrays counts.now amounts.now shares.now rates.now) buffer.old }
     ensures kept { result ≡ 0 → OneFile (take length.new buffer.new)
         (plan_of_arrays counts.now amounts.now shares.now rates.now) }
+    ensures alike { WriteAlike (record { counts = counts.now; amounts = amounts.now; shares = shares.now; rates = rates.now }) buffer.old }
 {
     let arrays = PlanArrays {
         counts,

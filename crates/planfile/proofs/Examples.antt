@@ -78,7 +78,8 @@ renewed_rollover = 4 ∷ 0 ∷ 4 ∷ 0 ∷ 64 ∷ 66 ∷ 15 ∷ 0 ∷ []
 unfoldable pub renewed_after : List ℕ
 renewed_after = 0 ∷ 0 ∷ 5 ∷ 0 ∷ 4 ∷ 0 ∷ 6 ∷ 0 ∷ 64 ∷ 66 ∷ 15 ∷ 0 ∷ []
 
--- it is written with the record where it holds it, and without where it does not, whatever it carries then
+-- it is written with the record where it holds it, and without where it does not (of arrays that carry the 2 all the same, `unheld_renewed` of
+-- crate becketgrape says this)
 pub written_renewed : map (λ opened. file_of (held (renewed (pos 1_080_000_002) opened (pos 2)))) (true ∷ false ∷ [])
     ≡ (renewed_before ++ opening_two ++ renewed_rollover ++ renewed_after) ∷ (renewed_before ++ renewed_rollover ++ renewed_after) ∷ []
 unfolding file_of file_from file_bytes record_bytes groups_of laid table record_of instrument_rec pattern_rec nth run bytes_of unsigned_of
@@ -142,10 +143,10 @@ lasting_file before after =
     ++ (4 ∷ 0 ∷ 5 ∷ 0 ∷ 96 ∷ 234 ∷ 0 ∷ 0 ∷ 4 ∷ 0 ∷ 6 ∷ 0 ∷ 64 ∷ 66 ∷ 15 ∷ 0 ∷ [])
 
 -- its files where it holds neither, the one, the other, and both
-abbrev lasting_files : List (List ℕ)
+abbrev pub lasting_files : List (List ℕ)
 lasting_files = map (λ records. lasting_file records []) ([] ∷ opening_twice ∷ cost_left ∷ (opening_twice ++ cost_left) ∷ [])
 
--- it is written with the records that it holds, whatever it carries for the others
+-- it is written with the records that it holds (and `unheld_lasting` says this of arrays that carry the others too)
 pub written_lasting : map (λ plan. file_of (held plan))
     (lasting false (pos 2) false (pos 1_000_000_000)
     ∷ lasting true (pos 2) false (pos 1_000_000_000)
@@ -212,7 +213,8 @@ sloping_list = 8 ∷ 0 ∷ 5 ∷ 0 ∷ 96 ∷ 234 ∷ 0 ∷ 0 ∷ 144 ∷ 95 ∷
 unfoldable pub sloping_after : List ℕ
 sloping_after = 4 ∷ 0 ∷ 6 ∷ 0 ∷ 64 ∷ 66 ∷ 15 ∷ 0 ∷ []
 
--- it is written with the kinds that it holds, whatever it carries for the others
+-- it is written with the kinds that it holds, whatever stands past the rates that are listed (and `unheld_sloping` says this of arrays that
+-- carry each kind for both)
 pub written_sloping : map (λ other. file_of (held (sloping (pos 65_000) (negsuc 2_499) 2 other))) (0 ∷ 31 ∷ [])
     ≡ (sloping_before ++ slope_down ++ sloping_list ++ sloping_after) ∷ (sloping_before ++ slope_down ++ sloping_list ++ sloping_after) ∷ []
 unfolding file_of file_from file_bytes record_bytes groups_of laid table record_of instrument_rec pattern_rec nth run bytes_of unsigned_of

@@ -30,8 +30,9 @@ word_cases =
 abbrev pub starred_cases : List Case
 starred_cases = share_cases ++ (bound_cases ++ (gamma_cases ++ (fund_cases ++ word_cases)))
 
--- outflow 1080000002, which is short: with 2 already invested it is solvent, with 1 close, and with 2 that are not held short. With 2, the
--- exact flow is 0 and Q is -1080000000.
+-- outflow 1080000002, which is short: with 2 already invested it is solvent, with 1 close, and with 2 that are not held short (a plan has no
+-- place for them then, the arrays of the library for C do: crate becketgrape, `unheld_openings`). With 2, the exact flow is 0 and Q is
+-- -1080000000.
 unfoldable pub opening_cases : List Case
 opening_cases =
     record { given = pos (pattern_word (numbers (renewed (pos 1_080_000_002) true (pos 2))) 1); stated = pos solvent }
@@ -46,7 +47,7 @@ opening_cases =
 abbrev left : (first second : ℤ) → Numbers
 left first second = numbers (longer (pos 1_080_000_001) true first second)
 
--- an outflow that is so many amounts too much, with costs of 0 that are held, and with costs that are not
+-- an outflow that is so many amounts too much, with costs of 0 that are held, and with costs that are not (in arrays: `unheld_costs`)
 abbrev missing : (amounts : ℕ) (costed : Bool) (cost : ℤ) → Numbers
 missing amounts costed cost = numbers (longer (pos (1_080_000_000 + amounts)) costed cost cost)
 
