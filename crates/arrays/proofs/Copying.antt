@@ -5,11 +5,16 @@ use Prim.Native.Nat.{ℕ, ◌+◌, ◌*◌, ◌≤◌, ◌<◌}
 use native.Mathlib.Numerals.{add-one}
 use native.Mathlib.Omega.{arith}
 use borrow.Rule.Slice.PartMut.{put_mid}
-use lib.ListN.{length, set, take, length-set}
-use lib.Seq.{paste, length-paste, take-paste, take_all}
+use mathlib.Core.Logic.{⊎_elim}
+use lib.ListN.{length, get_or, set, take, length-set}
+use lib.Seq.{paste, length-paste, take-paste, take_all, ext_get_or}
 use Rattle.std.proofs.lemmas.List.{take_more_set}
 use Rattle.std.proofs.lemmas.Slice.{put_mid-paste}
-use Rattle.whole.proofs.Table.{length_table}
+use Rattle.std.proofs.lemmas.List.{get_or-set_other}
+use Rattle.std.proofs.lemmas.Grind.{get_or-set_at}
+use Rattle.whole.specs.Table.{table}
+use Rattle.whole.proofs.Laws.{ℕ_cases}
+use Rattle.whole.proofs.Table.{length_table, table_at}
 use Rattle.plan.specs.declared.Pattern.{Pattern}
 use Rattle.arrays.specs.Arrays.{joined, of_each}
 
@@ -69,3 +74,29 @@ module _ {A : Type 0} where
 
     pub join_end : {l : List A} {j : ℕ} → n ≤ j → Joining size n row l j → Front size l (30 * n) (joined n row)
     join_end {l} {j} h s = let e : j ≡ n = omega (arith, s.upto) in rw e at s.front
+
+  -- an array of `size` places whose first t are filled in with f
+  pub record Filled (size : ℕ) (f : ℕ → A) (l : List A) (t : ℕ) : Type 0 where
+    pub long : length l ≡ size
+    pub each : (k : ℕ) (d : A) → k < t → get_or l k d ≡ f k
+
+  module _ {size : ℕ} {f : ℕ → A} where
+    pub filled_start : {l : List A} → length l ≡ size → Filled size f l 0
+    filled_start long = record { long = long; each = λ k d h. absurd (omega (arith, h)) }
+
+    pub filled_turn : {l : List A} {t : ℕ} {x : A} → t < size → Filled size f l t → x ≡ f t → Filled size f (set l t x) (t + 1)
+    filled_turn {l} {t} {x} h s e =
+        let long = s.long in
+        record {
+          long = length-set l t x ∙ long;
+          each = λ k d m. ⊎_elim
+              (λ (n : k < t). get_or-set_other l t k x d (λ same. omega (arith, same, n)) ∙ s.each k d n)
+              (λ (n : t ≤ k). let same : k ≡ t = omega (arith, n, m) in get_or-set_at l t k x d same (omega (arith, long, h)) ∙ e ∙ ap f (sym same))
+              (ℕ_cases k t);
+        }
+
+    pub filled_end : {l : List A} {t : ℕ} (none : A) → size ≤ t → Filled size f l t → l ≡ table size size f none
+    filled_end {l} none all s =
+        let long = s.long in
+        ext_get_or none l _ (long ∙ sym (length_table size size f none (omega arith)))
+        (λ k h. let m : k < size = omega (arith, long, h) in s.each k none (omega (arith, m, all)) ∙ sym (table_at size size f none none k m (omega arith)))

@@ -194,11 +194,13 @@ impl PlanArrays<'_> {
         }
     }
 
-    // The patterns, one after the other.
-    fn patterns(&self) -> [Pattern; 64]
-        ensures { result ≡ patterns_of self.now.counts.now self.now.rates.now }
+    // Fills in the patterns, one after the other. (Answered as a value they would stand on the stack more than once.)
+    fn put_patterns(&self, rows: &mut [Pattern; 64])
+        ensures { rows.new ≡ patterns_of self.now.counts.now self.now.rates.now }
     {
-        from_fn(|t| self.pattern(t))
+        for (t, row) in rows.iter_mut().enumerate() {
+            *row = self.pattern(t);
+        }
     }
 
     // The plan that the arrays hold, whatever they hold. Any number but 0 says that money already invested is held, or the cost that is
@@ -212,7 +214,7 @@ impl PlanArrays<'_> {
             shares,
             ..
         } = *self;
-        Plan {
+        let mut plan = Plan {
             years: counts[0],
             instruments: counts[1],
             terms: counts[2],
@@ -220,10 +222,12 @@ impl PlanArrays<'_> {
             instrument: self.instruments(),
             outflows: part_of(amounts, OUTFLOWS),
             rollover: part_of(shares, 0),
-            pattern: self.patterns(),
+            pattern: [Pattern::Rates([0; 30]); 64],
             allocation: part_of(shares, ALLOCATION),
             opening: (0 < counts[OPENED]).then_some(part_of(amounts, OPENING)),
             cost: (0 < counts[COSTED]).then_some(part_of(amounts, COST)),
-        }
+        };
+        self.put_patterns(&mut plan.pattern);
+        plan
     }
 }

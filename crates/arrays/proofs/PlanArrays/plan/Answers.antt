@@ -7,10 +7,10 @@ pub returns : goal.returns
 unfolding plan_of_arrays
 returns c =
     rw (
+      c.put_patterns.ensures,
       c.instruments.ensures,
       c.part_of.ensures,
       c.part_of-2.ensures,
-      c.patterns.ensures,
       c.part_of-3.ensures,
       c.then_some.ensures,
       c.part_of-4.ensures,
