@@ -45,18 +45,24 @@ all_of_two xs ys p e =
 one_less : (n : ℕ) → n + 1 - 1 ≡ n
 one_less n = omega arith
 
--- a list of the rates of years 2 and on
-pub list_ok_of : (list : List ℤ) → all (length list) (λ l. is_between (pos 0) (pos top) (get_or list l (pos 0))) ≡ list_ok (length list + 1) (rates_of list)
+-- what is tested of the rates of years 2 to N, and of a list that has just these
+pub list_ok_law : (N : ℕ) (rates : List ℤ) → all (N - 1) (λ l. is_between (pos 0) (pos top) (get_or rates l (pos 0))) ≡ list_ok N (rates_of rates)
 unfolding list_ok
+list_ok_law N rates = all_cong (N - 1) _ _ (λ l k. ap (is_between (pos 0) (pos top)) (sym (rate_at rates l)))
+
+pub list_ok_of : (list : List ℤ) → all (length list) (λ l. is_between (pos 0) (pos top) (get_or list l (pos 0))) ≡ list_ok (length list + 1) (rates_of list)
 list_ok_of list =
-    all_cong (length list) _ _ (λ l k. ap (is_between (pos 0) (pos top)) (sym (rate_at list l)))
-    ∙ ap (λ (n : ℕ). all n (λ l. is_between (pos 0) (pos top) (rates_of list (2 + l)))) (sym (one_less (length list)))
+    ap (λ (n : ℕ). all n (λ l. is_between (pos 0) (pos top) (get_or list l (pos 0)))) (sym (one_less (length list)))
+    ∙ list_ok_law (length list + 1) list
+
+pub in_order : (N : ℕ) (lending borrowing : List ℤ) → all (N - 1) (λ l. le_z (get_or lending l (pos 0)) (get_or borrowing l (pos 0))) ≡ is_in_order N (rates_of lending) (rates_of borrowing)
+unfolding is_in_order
+in_order N lending borrowing = all_cong (N - 1) _ _ (λ l k. sym (rw (rate_at lending l, rate_at borrowing l)))
 
 pub in_order_of : (lending borrowing : List ℤ) → all (length lending) (λ l. le_z (get_or lending l (pos 0)) (get_or borrowing l (pos 0))) ≡ is_in_order (length lending + 1) (rates_of lending) (rates_of borrowing)
-unfolding is_in_order
 in_order_of lending borrowing =
-    all_cong (length lending) _ _ (λ l k. sym (rw (rate_at lending l, rate_at borrowing l)))
-    ∙ ap (λ (n : ℕ). all n (λ l. le_z (rates_of lending (2 + l)) (rates_of borrowing (2 + l)))) (sym (one_less (length lending)))
+    ap (λ (n : ℕ). all n (λ l. le_z (get_or lending l (pos 0)) (get_or borrowing l (pos 0)))) (sym (one_less (length lending)))
+    ∙ in_order (length lending + 1) lending borrowing
 
 -- of a list of n rates
 pub rates_held : (list : List ℤ) (n : ℕ) → n ≤ 30 → length list ≡ n → rates_of (table 30 n (λ l. get_or list l (pos 0)) (pos 0)) ≡ rates_of list

@@ -3,7 +3,7 @@ use mathlib.Core.Path.{◌≡◌, refl, ap, ◌∙◌, sym}
 use mathlib.Core.Bool.{Bool, true, false}
 use mathlib.Core.List.{List, [], ◌∷◌, ◌++◌}
 use Prim.Native.Nat.{ℕ, zero, suc, ◌+◌, ◌-◌, ◌*◌, ◌≤◌, ◌<◌}
-use native.Mathlib.Nat.{add-mul}
+use native.Mathlib.Nat.{mul-le-mul_right, add-mul}
 use native.Mathlib.Numerals.{add-one}
 use native.Mathlib.Omega.{arith}
 use borrow.Author.Tests.{eqb-true, eqb-false}
@@ -44,6 +44,29 @@ parts_left s parts unit k l =
     omega arith
 
 module _ {n : ℕ} {shares : List ℕ} {at others parts unit : ℕ} (h : Placing n shares at others parts unit) where
+  -- a share of s parts is at most 1,000,000
+  pub share_fits : (s : ℕ) → s ≤ parts → s * unit ≤ million
+  share_fits s l = let m = mul-le-mul_right unit l in omega (arith, h.whole)
+
+  pub place_few : n ≤ 4 → at < 4
+  place_few few = omega (arith, h.places)
+
+  -- with all parts on the last instrument the shares come to 1,000,000
+  pub last_whole : n ≤ 4 → others ≡ 0 → {last : List ℕ} → last ≡ set shares at (parts * unit) → sum_ℕ n (λ j. get_or last j 0) ≡ million
+  last_whole few none {last} e =
+      let p : n ≡ at + 1 = omega (arith, h.places) in
+      ap (λ (m : ℕ). sum_ℕ m (λ j. get_or last j 0)) p
+      ∙ ap (λ (l : List ℕ). sum_ℕ (at + 1) (λ j. get_or l j 0)) e
+      ∙ sum_set shares at (parts * unit) (omega (arith, h.places, h.array)) ∙ h.whole
+
+  -- and so do the four of the array
+  pub last_four : n ≤ 4 → others ≡ 0 → {last : List ℕ} → last ≡ set shares at (parts * unit) → sum_ℕ 4 (λ j. get_or last j 0) ≡ million
+  last_four few none {last} e =
+      let p : n + (4 - n) ≡ 4 = omega arith in
+      ap (λ (m : ℕ). sum_ℕ m (λ j. get_or last j 0)) (sym p)
+      ∙ sum_ℕ_past n (4 - n) (λ j. get_or last j 0) (λ k l. ap (λ (l : List ℕ). get_or l k 0) e ∙ get_or-set_other shares at k (parts * unit) 0 (λ z. omega (arith, h.places)) ∙ h.behind k (omega (arith, h.places)))
+      ∙ last_whole few none e
+
   -- with at most the parts left on this one the four shares of the array come to at most 1,000,000
   pub set_few : n ≤ 4 → (v : ℕ) → v ≤ parts * unit → sum_ℕ 4 (λ j. get_or (set shares at v) j 0) ≤ million
   set_few few v l =

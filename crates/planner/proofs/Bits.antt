@@ -139,3 +139,12 @@ pub none_bits : (n : ℕ) (p : ℕ → Bool) → ((t : ℕ) → t < n → p t �
 unfolding bits_of
 none_bits zero p h = refl
 none_bits (suc n) p h = ap₂ (λ (b : Bool) (x : ℕ). bit b + 2 * x) (h 0 (omega arith)) (none_bits n (λ t. p (suc t)) (λ t l. h (suc t) (omega arith)))
+
+-- and where none is set, p holds of none
+pub bits_zero : (n : ℕ) (p : ℕ → Bool) → bits_of n p ≡ 0 → (t : ℕ) → t < n → p t ≡ false
+unfolding bits_of
+bits_zero n p e t l = go (p t) (sym (bit_at n p t l) ∙ ap (λ (x : ℕ). x / 2 ^ t % 2) e ∙ bit_past 0 p t (omega arith))
+  where
+    go : (b : Bool) → bit b ≡ 0 → b ≡ false
+    go true e = absurd (omega arith)
+    go false e = refl

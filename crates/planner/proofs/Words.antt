@@ -13,7 +13,8 @@ use denote.Param.Members.{Mut, Called}
 use denote.Ref.{Bor}
 use Rattle.whole.specs.Test.{pick, both, all}
 use Rattle.whole.proofs.Made.{made_each}
-use Rattle.whole.proofs.Test.{both_yes}
+use borrow.Author.Tests.{eq-eqb, ne_eqb}
+use Rattle.whole.proofs.Test.{both_yes, all_fails}
 use Rattle.planner.specs.Answers.{VerdictAnswer}
 use Rattle.planner.specs.Rows.{verdict_of}
 use Rattle.planner.specs.Shown.{Words, word_number, word_shown, verdict_made}
@@ -94,6 +95,17 @@ solvents_are (suc m) (Some w ∷ ws) some none =
 -- the plan's word where no bit is set
 pub unshort_word : {m : ℕ} {words : List (Option Word)} → Words m words → {bits : ℕ} → bits ≡ 0 → {b : Bool} → b ≡ solvents words → pick b solvent close ≡ plan_word_of m (word_at words) bits
 unshort_word {m} {words} w {bits} e {b} k = rw (e, k, solvents_are m words w.some w.none)
+
+-- ---- the plan's word, of any m words and bits: short by a bit, else close by a word, else solvent
+module _ (m : ℕ) (word : ℕ → ℕ) where
+  pub short_found : {bits : ℕ} → (bits ≡ 0 → ⊥) → short ≡ plan_word_of m word bits
+  short_found {bits} h = rw (ne_eqb bits 0 h)
+
+  pub close_found : {bits t : ℕ} → bits ≡ 0 → t < m → (word t ≡ solvent → ⊥) → close ≡ plan_word_of m word bits
+  close_found {bits} {t} e l h = rw (eq-eqb bits 0 e, all_fails m (λ t. eqb (word t) solvent) t l (ne_eqb (word t) solvent h))
+
+  pub solvents_found : {bits : ℕ} → bits ≡ 0 → all m (λ t. eqb (word t) solvent) ≡ true → solvent ≡ plan_word_of m word bits
+  solvents_found {bits} e are = rw (eq-eqb bits 0 e, are)
 
 -- ---- the verdict that they make
 abbrev word_in : List ℕ → ℕ → ℕ

@@ -22,7 +22,7 @@ use Rattle.whole.proofs.Bridge.{whole, at, #, ◌⊖◌}
 use Rattle.whole.proofs.Range.{within_more, within_add, within_pos, within_fits, whole64, back}
 use Rattle.whole.proofs.Floor.{share_within, share_none}
 use Rattle.whole.proofs.Sum.{sum_more, sum_cong, sum_zeros, sum_within}
-use Rattle.whole.proofs.Test.{all_none, all_more, all_fails, all_at, between_fact}
+use Rattle.whole.proofs.Test.{both_second, both_not, all_none, all_more, all_fails, all_at, between_fact}
 use Rattle.whole.proofs.Table.{table_none, table_more, table_at}
 use Rattle.reckoning.specs.Reckoning.{w, sent, alpha, fund}
 use Rattle.reckoning.specs.Arrays.{shares_of, rates_of, amounts_of, weights_of, Years, Terms, Before, Invested, alphas_of, alphas_fit, fund_fits, fund_reckoned}
@@ -168,6 +168,9 @@ module _ (r i f : List ℤ) {n : ℕ} (years : Years n) where
   unfolding alphas_of alphas_fit
   fill_start = record { upto = omega arith; is = sym (table_none 30 αs (pos 0)); fit = all_none (λ l. is_within limit (αs l)) }
 
+  pub fill_before : {j : ℕ} {v : List ℤ} → j < n → Filled r i f n j v → Before (shares_of r) (rates_of i) (amounts_of f) j v
+  fill_before b s = record { few = omega (arith, years.few); is = s.is; fit = s.fit }
+
   module _ {j : ℕ} {v : List ℤ} {z : ℤ} (b : j < n) (s : Filled r i f n j v) (e : z ≡ αs j) where
     pub fill_turn : is_within limit z ≡ true → Filled r i f n (j + 1) (set v j z)
     unfolding alphas_of alphas_fit
@@ -183,6 +186,17 @@ module _ (r i f : List ℤ) {n : ℕ} (years : Years n) where
 
   pub fill_end : {j : ℕ} {v : List ℤ} → n ≤ j → Filled r i f n j v → Filled r i f n n v
   fill_end {j} {v} l s = let e : j ≡ n = omega (arith, s.upto) in subst (λ (j : ℕ). Filled r i f n j v) e s
+
+-- ---- accepted or not, the fund of an answer is within the limit
+module _ (r : ℕ → ℕ) (i f : ℕ → ℤ) (N : ℕ) (left : ℤ) where
+  pub fund_within : Within limit (fund_reckoned r i f N left).fund
+  unfolding fund_reckoned fund_fits
+  fund_within = go (both (alphas_fit r i f N) (is_within limit (fund r i N f +ℤ left))) refl
+    where
+      go : (b : Bool) → both (alphas_fit r i f N) (is_within limit (fund r i N f +ℤ left)) ≡ b →
+          Within limit (pick {A = Reckoned} b (record { refusal = 0; fund = fund r i N f +ℤ left }) (record { refusal = 11; fund = pos 0 })).fund
+      go true e = between_fact _ _ _ (both_second (alphas_fit r i f N) _ e)
+      go false e = within_pos (omega arith)
 
 -- ---- the fund: s is what the cells before place k still have invested
 abbrev pub invested : (v u : List ℤ) → ℕ → ℕ → ℤ
@@ -274,6 +288,10 @@ pub total_end : {v u : List ℤ} {n : ℕ} {xs ws : List ℤ} {s : ℤ} → Tota
 total_end {v} {u} {n} a e = a.is ∙ ap (λ (k : ℕ). sum k (invested v u n)) (omega arith)
 
 -- ---- the fund of a flow, from its cells, with what is left at the horizon: what check 11 answers of it
+pub fund_refused : (r : ℕ → ℕ) (i f : ℕ → ℤ) (N : ℕ) (left : ℤ) {s : ℤ} → s ≡ fund r i N f +ℤ left → is_within limit s ≡ false → record { refusal = 11; fund = pos 0 } ≡ fund_reckoned r i f N left
+unfolding fund_reckoned fund_fits
+fund_refused r i f N left e h = rw (rw e at h, both_not (alphas_fit r i f N))
+
 module _ (r : ℕ → ℕ) (i f : ℕ → ℤ) (N : ℕ) (left : ℤ) {s : ℤ} (is : s ≡ fund r i N f +ℤ left) (fit : alphas_fit r i f N ≡ true) where
   pub fund_answered : {answer : Result ℤ Refusal} → answer ≡ pick (is_within limit s) (Ok s) (Err OutOfLimit) → fund_shown answer ≡ fund_reckoned r i f N left
   unfolding fund_reckoned fund_fits

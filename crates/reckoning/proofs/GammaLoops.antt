@@ -59,8 +59,11 @@ module _ {n : ℕ} {row earlier : List ℤ} {r u i : ℤ} (h : Joins n row earli
       let rate : SFits w64 i = within_fits (omega arith) h.rate in
       ap (λ (z : ℤ). get_or row l (pos 0) +ℤ z) (rw (earlier_is_word, back matured, back invested, back rate) at e)
 
+  pub entry_within : Within 102_000_000_000_000 (joined_at row earlier r u i l)
+  entry_within = within_add {b = 100 * limit} {c = limit + limit} (h.so_far l b) (sent_within _ _ _ _ (h.earlier_fits l b) h.matured h.invested h.rate)
+
   pub joined_fits : SFits w64 (joined_at row earlier r u i l)
-  joined_fits = within_fits (omega arith) (within_add {b = 100 * limit} {c = limit + limit} (h.so_far l b) (sent_within _ _ _ _ (h.earlier_fits l b) h.matured h.invested h.rate))
+  joined_fits = within_fits (omega arith) entry_within
 
 -- ---- a row from the rows before it
 module _ (r : ℕ → ℕ) (i : ℕ → ℤ) where
@@ -222,6 +225,9 @@ module _ (r : ℕ → ℕ) (i : ℕ → ℤ) (n : ℕ) where
   fill_start = record { upto = omega arith; is = sym (table_none 30 (gamma_row r i n) no_row); fit = all_none (gamma_row_fits r i n) }
 
   module _ {rows : List Row} {j : ℕ} (s : Filling rows j) where
+    pub rows_before : j < n → RowsBefore r i n j rows
+    rows_before b = record { few = b; is = s.is; fit = s.fit }
+
     module _ (few : n ≤ 30) (b : j < n) (x : Row) (e : x ≡ gamma_row r i n j) where
       tested : all n (entry_fits x.values) ≡ gamma_row_fits r i n j
       unfolding gamma_row gamma_row_fits

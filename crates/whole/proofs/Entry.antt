@@ -85,6 +85,10 @@ entry_cong z n f g h (suc j) = ⊎_elim
     (λ (l : n ≤ j). cut_past z n f j l ∙ sym (cut_past z n g j l))
     (ℕ_cases j n)
 
+-- the same with a count on either side
+pub entry_same : {A : Type 0} (z : A) {n m : ℕ} (f g : ℕ → A) → n ≡ m → ((j : ℕ) → j < n → f j ≡ g j) → (k : ℕ) → entry z n f k ≡ entry z m g k
+entry_same z {n} f g e h k = rw (← e) (entry_cong z n f g h k)
+
 -- entries are those of their own values, and entries that are all z are z at every index
 pub entry_own : {A : Type 0} (z : A) (n : ℕ) (f : ℕ → A) → entry z n f ≡ entry z n (λ k. entry z n f (1 + k))
 entry_own z n f = fun_ext (entry_cong z n f _ (λ k l. sym (entry_at z n f k l)))

@@ -103,6 +103,10 @@ neg_ℤ_mono {a} {b} h = omega (whole, at (⊝ (# a)), at (⊝ (# b)))
 pub ≤ℤ_sub : {a b : ℤ} → a ≤ℤ b → pos 0 ≤ℤ (b -ℤ a)
 ≤ℤ_sub {a} {b} h = omega (whole, at (# b ⊖ # a))
 
+-- a certificate of a ≤ b: a number that is not negative, and that b - a is by the ring solver
+pub by_gap : (a b : ℤ) {g : ℤ} → b -ℤ a ≡ g → pos 0 ≤ℤ g → a ≤ℤ b
+by_gap a b e h = omega (whole, at (# b ⊖ # a))
+
 -- ---- the order and the product
 pub *ℤ_mono : {a b m : ℤ} → pos 0 ≤ℤ m → a ≤ℤ b → (a *ℤ m) ≤ℤ (b *ℤ m)
 *ℤ_mono {a} {b} {m = pos k} z h = omega (whole, at (# a ⊗ # (pos k)), at (# b ⊗ # (pos k)), mul-le-mul_right k (le→ h))

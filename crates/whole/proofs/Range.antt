@@ -1,5 +1,5 @@
 -- The laws of ranges, |z| as a natural, and that a number of a known range fits a machine's word.
-use mathlib.Core.Path.{◌≡◌, refl}
+use mathlib.Core.Path.{◌≡◌, refl, sym, ap, ◌∙◌}
 use Prim.Native.Nat.{ℕ, zero, suc, ◌+◌, ◌*◌, ◌-◌, ◌/◌, ◌≤◌, ◌<◌}
 use native.Mathlib.Nat.{mul-le-mul, le_trans, div-le_self}
 use native.Mathlib.Omega.{arith}
@@ -88,6 +88,10 @@ back f = to_z-of_z f
 -- an unsigned number that was cast to signed
 pub pos64 : {n : ℕ} → SFits w64 (pos n) → to_z w64 n ≡ pos n
 pos64 f = to_z_pos w64 f.sfits
+
+-- `x == y` of two signed locals compares their bits
+pub bits_same : {x y : ℤ} → SFits w64 x → SFits w64 y → of_z w64 x ≡ of_z w64 y → x ≡ y
+bits_same f g e = sym (back f) ∙ ap (to_z w64) e ∙ back g
 
 -- ---- a signed word of 32 bits
 pub between_32 : {z : ℤ} → SFits w32 z → Between (negsuc 2_147_483_647) (pos 2_147_483_647) z

@@ -1,7 +1,7 @@
 -- The laws of a table.
 use Prim.Native.Nat.{ℕ, zero, suc, ◌+◌, ◌≤◌, ◌<◌}
 use mathlib.Core.Path.{◌≡◌, refl, ap, ap₂, ◌∙◌, sym, subst}
-use mathlib.Core.List.{List, ◌∷◌}
+use mathlib.Core.List.{List, [], ◌∷◌, ◌++◌}
 use mathlib.Core.Logic.{⊎_elim}
 use native.Mathlib.Nat.{not-suc-le-zero, le_of_suc-le-suc}
 use native.Mathlib.Numerals.{add-one}
@@ -80,6 +80,15 @@ module _ {A : Type 0} where
   table_set (suc m) (suc n) f g d (suc j) h few e =
       ap₂ (λ (a : A) (l : List A). a ∷ l) (e zero (λ i. omega arith))
       (table_set m n (λ k. f (suc k)) (λ k. g (suc k)) d j (le_of_suc-le-suc h) (le_of_suc-le-suc few) (λ k n. e (suc k) (λ i. n (omega arith))))
+
+  -- one value more at the end of a table that is full
+  table_full : (n : ℕ) (f : ℕ → A) (d : A) → table (suc n) (suc n) f d ≡ table n n f d ++ (f n ∷ [])
+  unfolding table
+  table_full zero f d = refl
+  table_full (suc n) f d = ap (λ (l : List A). f zero ∷ l) (table_full n (λ k. f (suc k)) d)
+
+  pub table_last : (n : ℕ) (f : ℕ → A) (d : A) → table (n + 1) (n + 1) f d ≡ table n n f d ++ (f n ∷ [])
+  table_last n f d = rw add-one (table_full n f d)
 
   -- every place is d
   pub table_same : (m n : ℕ) (d : A) → table m n (λ k. d) d ≡ replicate m d

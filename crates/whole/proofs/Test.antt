@@ -5,7 +5,7 @@ use mathlib.Core.Logic.{⊎_elim}
 use Prim.Native.Nat.{ℕ, zero, suc, ◌+◌, ◌≤◌, ◌<◌}
 use native.Mathlib.Numerals.{add-one}
 use native.Mathlib.Omega.{arith}
-use borrow.Author.Tests.{le-leb, leb-true}
+use borrow.Author.Tests.{le-leb, lt-leb, leb-true}
 use lib.Dec.{T, leb, nleb→lt, lt→ltb}
 use lib.IntN.{ℤ, pos, negsuc}
 use lib.Signed.{le_z, lt_z, le_z_yes, lt_z_yes, lt_z_no, ◌≤ℤ◌, ◌<ℤ◌, clash_ℤ}
@@ -37,6 +37,11 @@ both_not false = refl
 pub pick_few : (b : Bool) (n : ℕ) → pick b n 0 ≤ n
 pick_few true n = omega arith
 pick_few false n = omega arith
+
+-- none, or n
+pub pick_none_few : (b : Bool) (n : ℕ) → pick b 0 n ≤ n
+pick_none_few true n = omega arith
+pick_none_few false n = omega arith
 
 -- a test that picks twice picks once
 pub pick_again : {A : Type 0} (b : Bool) (x y z : A) → pick b (pick b x y) z ≡ pick b x z
@@ -156,6 +161,11 @@ module _ (a b z : ℤ) where
   unfolding is_between
   between_above h = rw (lt_le_Z z b h) (both_not (le_z a z))
 
+-- a natural is never below 0
+pub between_pos : (b n : ℕ) → is_between (pos 0) (pos b) (pos n) ≡ leb n b
+unfolding is_between
+between_pos b n = rw (le-leb 0 n (omega arith))
+
 pub same_is : (x y : ℤ) → is_same x y ≡ true → x ≡ y
 unfolding is_same
 same_is x y e = let h = between_fact y y x e in ≤ℤ_antisymm h.high h.low
@@ -169,3 +179,9 @@ from_high a b n e = leb-true n b (both_second (leb a n) _ e)
 
 pub from_yes : (a b n : ℕ) → a ≤ n → n ≤ b → is_from a b n ≡ true
 from_yes a b n h k = rw (le-leb a n h, le-leb n b k)
+
+pub from_under : (a b n : ℕ) → n < a → is_from a b n ≡ false
+from_under a b n h = rw (lt-leb a n h)
+
+pub from_above : (a b n : ℕ) → b < n → is_from a b n ≡ false
+from_above a b n h = rw (lt-leb n b h) (both_not (leb a n))
