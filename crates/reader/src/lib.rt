@@ -18,7 +18,7 @@ ghost use Rattle.planfile.specs.Answers.{read_shown};
 ghost use Rattle.planfile.specs.Read.{reading_of};
 ghost use Rattle.planfile.specs.Demand2.{OneFile};
 ghost use Rattle.planfile.specs.Reading.{Laid};
-ghost use Rattle.reader.specs.Reading.{GivesEntry, slope_read};
+ghost use Rattle.reader.specs.Reading.{GivesEntry, rates_read, slope_read};
 
 use little_endian::Number;
 use plan::{Instrument, Pattern, Plan, Shape};
@@ -210,6 +210,15 @@ fn numbers<T: Number, const M: usize>(body: &[u8], n: usize, zero: T) -> [T; M]
     )
 }
 
+// The first n rates of a body.
+fn rates(body: &[u8], n: usize) -> [i32; 30]
+    requires few { n ≤ 30 }
+    requires sized { 4 * n ≤ length body.now }
+    ensures { result ≡ rates_read n body.now }
+{
+    numbers(body, n, 0)
+}
+
 // The slope of a body: its start, its step and its T.
 fn slope(body: &[u8]) -> Pattern
     requires { 9 ≤ length body.now }
@@ -257,7 +266,7 @@ impl<'a> ShapedFile<'a> {
                     plan.rollover = numbers(body, shape.terms, 0);
                 }
                 Kind::Rates => {
-                    plan.pattern[spot.index] = Pattern::Rates(numbers(body, shape.years - 1, 0));
+                    plan.pattern[spot.index] = Pattern::Rates(rates(body, shape.years - 1));
                 }
                 Kind::Allocation => {
                     plan.allocation = numbers(body, shape.instruments, 0);

@@ -197,13 +197,13 @@ loop-t-preserved-in-Rollover c =
     let e = ap kind_number c.in-Rollover.is in
     kept a (fill_rollover _ _ (held a) (given a) (turned a e) refl c.numbers-plan-in-Rollover.ensures)
 
-pub numbers-requires : goal.numbers-requires
+pub rates-requires : goal.rates-requires
 unfolding size_of nth
-numbers-requires c =
-    let a = (goal.at.numbers-requires c).In-Some-Some in
+rates-requires c =
+    let a = (goal.at.rates-requires c).In-Some-Some in
     let r = range a in
     let size = sized a (ap kind_number c.in-Rates.is) in
-    (omega arith, (omega arith, omega arith))
+    record { few = omega arith; sized = omega arith }
 
 pub offset_bounds-plan-spot-in-Rates : goal.offset_bounds-plan-spot-in-Rates
 unfolding role_of nth
@@ -218,7 +218,7 @@ unfolding role_of nth
 loop-t-preserved-in-Rates c =
     let a = (goal.at.loop-t-preserved-in-Rates c).In-Some-Some in
     let e = ap kind_number c.in-Rates.is in
-    kept a (fill_pattern _ _ (held a) (given a) (turned a e) refl refl (ap Rates c.numbers.ensures ∙ list_row _ _ _ (is a e)) (pattern_few a e refl))
+    kept a (fill_pattern _ _ (held a) (given a) (turned a e) refl refl (ap Rates c.rates.ensures ∙ list_row _ _ _ (is a e)) (pattern_few a e refl))
 
 pub numbers-plan-requires-in-Allocation : goal.numbers-plan-requires-in-Allocation
 unfolding size_of nth
@@ -235,10 +235,10 @@ loop-t-preserved-in-Allocation c =
     let e = ap kind_number c.in-Allocation.is in
     kept a (fill_allocation _ _ (held a) (given a) (turned a e) refl c.numbers-plan-in-Allocation.ensures)
 
-pub numbers-requires-in-Opening : goal.numbers-requires-in-Opening
+pub numbers-requires : goal.numbers-requires
 unfolding size_of nth
-numbers-requires-in-Opening c =
-    let a = (goal.at.numbers-requires-in-Opening c).In-Some-Some in
+numbers-requires c =
+    let a = (goal.at.numbers-requires c).In-Some-Some in
     let r = range a in
     let size = sized a (ap kind_number c.in-Opening.is) in
     (omega arith, (omega arith, omega arith))
@@ -248,7 +248,7 @@ unfolding role_of nth
 loop-t-preserved-in-Opening c =
     let a = (goal.at.loop-t-preserved-in-Opening c).In-Some-Some in
     let e = ap kind_number c.in-Opening.is in
-    kept a (fill_opening _ _ (held a) (given a) (turned a e) refl (ap Some c.numbers-in-Opening.ensures))
+    kept a (fill_opening _ _ (held a) (given a) (turned a e) refl (ap Some c.numbers.ensures))
 
 pub slope-requires : goal.slope-requires
 unfolding size_of nth
