@@ -3,8 +3,8 @@ use mathlib.Core.Path.{◌≡◌, refl, sym, ap, ap₂, ◌∙◌}
 use mathlib.Core.List.{List, [], ◌∷◌, ◌++◌, append_assoc}
 use mathlib.Core.Logic.{◌⊎◌, inl, inr, ⊎_elim}
 use Prim.Native.Nat.{ℕ, zero, suc, ◌+◌, ◌-◌, ◌*◌, ◌/◌, ◌%◌, ◌^◌, ◌≤◌, ◌<◌}
-use native.Mathlib.Nat.{add-zero, zero-add, add-suc, suc-add, mul_assoc, pow-succ'}
-use native.Mathlib.Nat.{mod-lt, mod-add-div}
+use native.Mathlib.Nat.{add-zero, zero-add, add-suc, suc-add, mul_assoc, pow-succ', one-le-pow}
+use native.Mathlib.Nat.{mod-lt, mod-add-div, add-mul-mod_self_left, add-mul-div_left}
 use native.Mathlib.Omega.{arith}
 use lib.Dec.{lit<}
 use lib.ListN.{length, get_or, take, drop, set, length-take, get_or-append, get_or-eq_default}
@@ -47,6 +47,13 @@ bytes_take n {s} b = record {
       rw (get_or-eq_default (take n s) 0 l) (lit< tt))
       (ℕ_cases k n);
 }
+
+pub bytes_cons : {x : ℕ} {s : List ℕ} → x < 256 → Bytes s → Bytes (x ∷ s)
+bytes_cons {x} {s} h b = record { below = each }
+  where
+    each : (k : ℕ) → get_or (x ∷ s) k 0 < 256
+    each zero = h
+    each (suc k) = b.below k
 
 pub bytes_append : {s t : List ℕ} → Bytes s → Bytes t → Bytes (s ++ t)
 bytes_append {s} {t} b d = record {
@@ -101,10 +108,13 @@ le_at_same (suc n) at s t h =
     (ap₂ (λ (b x : ℕ). b + 256 * x) (h at (omega arith) (omega arith))
     (le_at_same n (suc at) s t (λ k l r. h k (omega arith) (omega arith))))
 
--- in the part from place k on
+-- in the part from place k on, and in the part before it
 pub le_at_drop : (n at k : ℕ) (s : List ℕ) → le_at n at (drop k s) ≡ le_at n (k + at) s
 unfolding le_at
 le_at_drop n at k s = rw drop-drop
+
+pub le_at_take : (n at k : ℕ) (s : List ℕ) → at + n ≤ k → le_at n at (take k s) ≡ le_at n at s
+le_at_take n at k s h = le_at_same n at (take k s) s (λ j l r. get_or-take k s j 0 (omega arith))
 
 -- in the first of two lists, and in the second
 pub le_at_left : (n at : ℕ) (s t : List ℕ) → at + n ≤ length s → le_at n at (s ++ t) ≡ le_at n at s
@@ -128,6 +138,22 @@ bytes_bytes_of n x = record { below = each n x }
     each zero x k = lit< tt
     each (suc n) x zero = mod-lt x (lit< tt)
     each (suc n) x (suc k) = each n (x / 256) k
+
+-- the m lowest bytes, and the n next
+bytes_of_append : (m n a b : ℕ) → a < 256 ^ m → bytes_of (m + n) (a + 256 ^ m * b) ≡ bytes_of m a ++ bytes_of n b
+unfolding bytes_of
+bytes_of_append zero n a b h = ap₂ bytes_of (zero-add n) (omega arith)
+bytes_of_append (suc m) n a b h =
+    let e : a + 256 ^ suc m * b ≡ a + 256 * (256 ^ m * b) = rw (pow-succ', mul_assoc) in
+    let k : a / 256 < 256 ^ m = omega (arith, pow-succ' 256 m) in
+    ap₂ bytes_of (suc-add m n) e
+    ∙ ap₂ (λ (x : ℕ) (l : List ℕ). x ∷ l) (add-mul-mod_self_left a 256 (256 ^ m * b))
+    (ap (bytes_of (m + n)) (add-mul-div_left a (256 ^ m * b) (lit< tt)) ∙ bytes_of_append m n (a / 256) b k)
+
+bytes_of_add : (m n x : ℕ) → bytes_of (m + n) x ≡ bytes_of m (x % 256 ^ m) ++ bytes_of n (x / 256 ^ m)
+bytes_of_add m n x =
+    ap (bytes_of (m + n)) (sym (mod-add-div x (256 ^ m)))
+    ∙ bytes_of_append m n (x % 256 ^ m) (x / 256 ^ m) (mod-lt x (one-le-pow m 256 (lit< tt)))
 
 -- the bytes of a number spell it
 pub le_of_bytes_of : (n x : ℕ) → x < 256 ^ n → le_of (bytes_of n x) ≡ x
@@ -177,6 +203,11 @@ le_at_stored n b at x h f = rw (le_at_part, stored_part) (le_of_bytes_of n x f)
 pub stored_one : (b : List ℕ) (at x : ℕ) → x < 256 → stored 1 b at x ≡ set b at x
 unfolding stored bytes_of
 stored_one b at x h = ap (set b at) (omega arith)
+
+-- the m lowest bytes, and then the n next
+pub stored_add : (m n : ℕ) (b : List ℕ) (at x : ℕ) → stored (m + n) b at x ≡ stored n (stored m b at (x % 256 ^ m)) (at + m) (x / 256 ^ m)
+unfolding stored
+stored_add m n b at x = rw (bytes_of_add, sets_append, length_bytes_of)
 
 -- every other byte is as it was
 pub get_D_stored : (n : ℕ) (b : List ℕ) (at x k : ℕ) → (k < at) ⊎ (at + n ≤ k) → get_or (stored n b at x) k 0 ≡ get_or b k 0

@@ -6,11 +6,12 @@ use Prim.Native.Nat.{ℕ, zero, suc, ◌+◌, ◌*◌, ◌^◌, ◌≤◌, ◌<�
 use native.Mathlib.Nat.{mul-le-mul_left, mul-zero, mul-suc}
 use native.Mathlib.Numerals.{add-one}
 use native.Mathlib.Omega.{arith}
+use lib.Dec.{lit<}
 use lib.ListN.{length, take, length-append}
 use lib.Seq.{take_all, take-add}
 use Rattle.whole.proofs.Laws.{ℕ_cases}
 use Rattle.little_endian.specs.LittleEndian.{Bytes, bytes_of}
-use Rattle.little_endian.proofs.LittleEndian.{length_bytes_of, le_at_below, le_at_left, le_at_between, bytes_of_le_at}
+use Rattle.little_endian.proofs.LittleEndian.{bytes_append, bytes_bytes_of, length_bytes_of, le_at_below, le_at_left, le_at_between, bytes_of_le_at}
 use Rattle.little_endian.specs.Runs.{run, number_at}
 
 module _ (w : ℕ) where
@@ -26,6 +27,11 @@ module _ (w : ℕ) where
   unfolding run
   length_run zero f = omega arith
   length_run (suc n) f = rw (length-append, length_run n f, length_bytes_of) (omega arith)
+
+  pub bytes_run : (n : ℕ) (f : ℕ → ℕ) → Bytes (run w n f)
+  unfolding run
+  bytes_run zero f = record { below = λ k. lit< tt }
+  bytes_run (suc n) f = bytes_append (bytes_run n f) (bytes_bytes_of w (f n))
 
   -- only the first n numbers are written
   pub run_cong : (n : ℕ) (f g : ℕ → ℕ) → ((k : ℕ) → k < n → f k ≡ g k) → run w n f ≡ run w n g

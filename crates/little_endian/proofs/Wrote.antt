@@ -1,10 +1,10 @@
 -- The laws of what is put down in a buffer: bytes after bytes, in a line or in a loop, and the room that they take.
 use mathlib.Core.Path.{◌≡◌, refl, sym, ap, ◌∙◌}
-use mathlib.Core.List.{List, [], ◌++◌}
+use mathlib.Core.List.{List, [], ◌∷◌, ◌++◌}
 use Prim.Native.Nat.{ℕ, ◌+◌, ◌*◌, ◌≤◌, ◌<◌}
 use native.Mathlib.Nat.{mul-suc, mul-add, mul-le-mul_left}
 use native.Mathlib.Omega.{arith}
-use lib.ListN.{length, length-append}
+use lib.ListN.{length, set, length-append}
 use lib.Seq.{length-sets}
 use Rattle.little_endian.specs.LittleEndian.{bytes_of, stored}
 use Rattle.little_endian.specs.Runs.{run}
@@ -15,6 +15,9 @@ use Rattle.little_endian.proofs.Runs.{run_none, run_more}
 -- ---- what is put down
 pub wrote_none : (l : List ℕ) (at : ℕ) → Wrote l l at [] at
 wrote_none l at = record { is = refl; next = omega arith }
+
+pub wrote_byte : (x : ℕ) {l : List ℕ} {at r : ℕ} → r ≡ at + 1 → Wrote l (set l at x) at (x ∷ []) r
+wrote_byte x e = record { is = refl; next = e }
 
 pub wrote_number : (w x : ℕ) {l l' : List ℕ} {at r : ℕ} → l' ≡ stored w l at x → r ≡ at + w → Wrote l l' at (bytes_of w x) r
 unfolding stored

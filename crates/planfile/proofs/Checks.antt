@@ -2,7 +2,7 @@
 use mathlib.Core.Path.{◌≡◌, ap}
 use mathlib.Core.Bool.{Bool, true, false}
 use mathlib.Core.List.{List}
-use Prim.Native.Nat.{ℕ, ◌<◌}
+use Prim.Native.Nat.{ℕ, ◌≤◌, ◌<◌}
 use native.Mathlib.Omega.{arith}
 use borrow.Author.Tests.{eqb-true, eq-eqb}
 use lib.Dec.{eqb, leb}
@@ -10,7 +10,7 @@ use lib.ListN.{length}
 use Rattle.whole.specs.Test.{both, all}
 use Rattle.whole.proofs.Test.{both_first, both_second, all_at, all_fails, all_yes}
 use Rattle.records.specs.Cursor.{whole_at, whole_file, place, kind_at, body_at}
-use Rattle.records.proofs.Cursor.{Consists}
+use Rattle.records.proofs.Cursor.{whole_end, length_body, Consists}
 use Rattle.plan.specs.declared.Shape.{Shape}
 use Rattle.plan.specs.Held.{Held}
 use Rattle.plan.specs.Numbers.{meaning}
@@ -46,6 +46,13 @@ module _ (s : List ℕ) where
 
     pub first_shape : shape_ok (shape_in s) ≡ true
     first_shape = both_second (eqb (length (body_at s 0)) 4) _ body_passed
+
+    pub first_long : 8 ≤ length s
+    unfolding first_ok place
+    first_long =
+        let w : whole_at s 0 ≡ true = both_first _ _ e in
+        let four = eqb-true (length (body_at s 0)) 4 (both_first _ _ body_passed) in
+        omega (arith, whole_end s 0 w, length_body s 0 w)
 
 -- ---- the role of record t
 module _ (s : List ℕ) (t role : ℕ) where

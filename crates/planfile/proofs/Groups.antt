@@ -1,5 +1,5 @@
 -- The laws of groups: a spot and a place are the same thing, and what holds of each group holds of each role.
-use mathlib.Core.Path.{◌≡◌, refl, sym, ap, ◌∙◌, subst}
+use mathlib.Core.Path.{◌≡◌, refl, sym, ap, ap₂, ◌∙◌, subst}
 use mathlib.Core.Bool.{Bool, true, false, not}
 use mathlib.Core.Logic.{⊎_elim}
 use mathlib.Core.List.{List, [], ◌∷◌, ◌++◌}
@@ -12,6 +12,7 @@ use lib.Dec.{eqb}
 use lib.ListN.{length, get_or, drop, drop_of_length-le, length-append, get_or-append}
 use lib.Seq.{get_or-append-add, drop-cons, ext_get_or}
 use Rattle.std.specs.List.{fold, sum_by}
+use Rattle.std.proofs.lemmas.List.{get_or-map, length-map}
 use Rattle.whole.specs.Entry.{nth}
 use Rattle.whole.specs.Test.{pick, both}
 use Rattle.whole.specs.Table.{table}
@@ -22,6 +23,7 @@ use Rattle.records.specs.Record.{Rec}
 use Rattle.plan.specs.declared.Shape.{Shape}
 use Rattle.plan.specs.Held.{flag}
 use Rattle.planfile.specs.declared.Group as group
+use Rattle.planfile.specs.declared.Role.{Role}
 use Rattle.planfile.specs.Kinds.{role_number}
 use Rattle.planfile.specs.Groups.{Group, Spot, groups_of, total, spot_at, count_of, place_of, none, laid, group_shown, groups_shown}
 use Rattle.planfile.specs.Reading.{InRange}
@@ -117,6 +119,21 @@ spot_place (g ∷ gs) d t h = ⊎_elim
     rw (spot_past g gs t l) (record { place = rw n (omega (arith, b.place)); index = rw n b.index }))
     (ℕ_cases t g.count)
 
+-- and each has all the records of its role
+lacks_at : (gs : List Group) (role : ℕ) → lacks role gs ≡ true → (d : Group) (g : ℕ) → g < length gs → eqb role (get_or gs g d).role ≡ false
+unfolding lacks
+lacks_at [] role e d g h = absurd (omega arith)
+lacks_at (a ∷ gs) role e d zero h = ne_eqb role a.role (λ i. false_true (sym (ap not (eq-eqb a.role role (sym i))) ∙ both_first _ _ e))
+lacks_at (a ∷ gs) role e d (suc g) h = lacks_at gs role (both_second (not (eqb a.role role)) _ e) d g (omega arith)
+
+pub count_at : (gs : List Group) → distinct gs ≡ true → (d : Group) (g : ℕ) → g < length gs → (get_or gs g d).count ≡ count_of gs (get_or gs g d).role
+unfolding distinct count_of
+count_at [] u d g h = absurd (omega arith)
+count_at (a ∷ gs) u d zero h = rw (eq-eqb a.role a.role refl) refl
+count_at (a ∷ gs) u d (suc g) h =
+    let n = lacks_at gs a.role (both_first _ _ u) d g (omega arith) in
+    rw n (count_at gs (both_second (lacks a.role gs) _ u) d g (omega arith))
+
 -- ---- the records that are laid out by groups
 module _ (f : (role j : ℕ) → Rec) where
   pub length_laid : (gs : List Group) → length (laid gs f) ≡ total gs
@@ -146,20 +163,41 @@ module _ (f : (role j : ℕ) → Rec) where
       let a = place_spot gs role j h in
       laid_at gs (place_of gs role j) a.inside ∙ ap (λ (s : Spot). f s.role s.index) a.spot
 
--- ---- by the code's array of groups: the spot of record t of those from group g on
-module _ (gs : List group.Group) (d : group.Group) (g : ℕ) (h : g < length gs) where
-  pub spot_first : (t : ℕ) → t < (get_or gs g d).count
-      → spot_at (groups_shown (drop g gs)) t ≡ record { role = role_number (get_or gs g d).role; index = t }
-  spot_first t l = rw (drop-cons gs g d h) (spot_here (group_shown (get_or gs g d)) (groups_shown (drop (suc g) gs)) t l)
+-- ---- by an array of groups: the rest of them from group g on
+module _ (gs : List Group) (d : Group) (g : ℕ) (h : g < length gs) where
+  pub total_rest : total (drop g gs) ≡ (get_or gs g d).count + total (drop (g + 1) gs)
+  unfolding total
+  total_rest = rw (add-one, drop-cons gs g d h)
 
-  pub spot_rest : (t : ℕ) → (get_or gs g d).count ≤ t
-      → spot_at (groups_shown (drop g gs)) t ≡ spot_at (groups_shown (drop (g + 1) gs)) (t - (get_or gs g d).count)
-  spot_rest t l = rw (add-one, drop-cons gs g d h) (spot_past (group_shown (get_or gs g d)) (groups_shown (drop (suc g) gs)) t l)
+  pub spot_first : (t : ℕ) → t < (get_or gs g d).count → spot_at (drop g gs) t ≡ record { role = (get_or gs g d).role; index = t }
+  spot_first t l = rw (drop-cons gs g d h) (spot_here (get_or gs g d) (drop (suc g) gs) t l)
+
+  pub spot_rest : (t : ℕ) → (get_or gs g d).count ≤ t → spot_at (drop g gs) t ≡ spot_at (drop (g + 1) gs) (t - (get_or gs g d).count)
+  spot_rest t l = rw (add-one, drop-cons gs g d h) (spot_past (get_or gs g d) (drop (suc g) gs) t l)
 
 -- none is left
-pub spot_none : (gs : List group.Group) (g t : ℕ) → length gs ≤ g → spot_at (groups_shown (drop g gs)) t ≡ record { role = 0; index = 0 }
+pub total_none : (gs : List Group) (g : ℕ) → length gs ≤ g → total (drop g gs) ≡ 0
+unfolding total
+total_none gs g h = rw (drop_of_length-le gs h)
+
+pub spot_none : (gs : List Group) (g t : ℕ) → length gs ≤ g → spot_at (drop g gs) t ≡ record { role = 0; index = 0 }
 unfolding spot_at
 spot_none gs g t h = rw (drop_of_length-le gs h)
+
+-- ---- by the code's array of groups: the spot of record t of those from group g on
+module _ (gs : List group.Group) (d : group.Group) (g : ℕ) (h : g < length gs) where
+  pub shown_first : (t : ℕ) → t < (get_or gs g d).count
+      → spot_at (groups_shown (drop g gs)) t ≡ record { role = role_number (get_or gs g d).role; index = t }
+  shown_first t l = rw (drop-cons gs g d h) (spot_here (group_shown (get_or gs g d)) (groups_shown (drop (suc g) gs)) t l)
+
+  pub shown_rest : (t : ℕ) → (get_or gs g d).count ≤ t
+      → spot_at (groups_shown (drop g gs)) t ≡ spot_at (groups_shown (drop (g + 1) gs)) (t - (get_or gs g d).count)
+  shown_rest t l = rw (add-one, drop-cons gs g d h) (spot_past (group_shown (get_or gs g d)) (groups_shown (drop (suc g) gs)) t l)
+
+-- none is left
+pub shown_none : (gs : List group.Group) (g t : ℕ) → length gs ≤ g → spot_at (groups_shown (drop g gs)) t ≡ record { role = 0; index = 0 }
+unfolding spot_at
+shown_none gs g t h = rw (drop_of_length-le gs h)
 
 -- how many records they have
 counted : (gs : List group.Group) (n : ℕ) → fold (λ (a : ℕ) (g : group.Group). a + g.count) n gs ≡ n + total (groups_shown gs)
@@ -176,11 +214,19 @@ most [] = 0
 most (g ∷ gs) = (4 + longest g.role) * g.count + most gs
 
 -- ---- the groups of a shape
--- a kind that may be absent has one record at most
+-- a kind that may be absent has one record at most, and where it has one, all its n numbers are held
 pub held_few : (is_held : Bool) → flag is_held ≤ 1
 held_few is_held = pick_few is_held 1
 
+pub held_all : (is_held : Bool) {j : ℕ} → j < flag is_held → (n : ℕ) → pick is_held n 0 ≡ n
+held_all true l n = refl
+held_all false l n = absurd (omega arith)
+
 module _ (h : Shape) where
+  pub length_groups : length (groups_of h) ≡ 8
+  unfolding groups_of
+  length_groups = refl
+
   distinct_groups : distinct (groups_of h) ≡ true
   unfolding groups_of distinct lacks
   distinct_groups = refl
@@ -202,6 +248,17 @@ module _ (h : Shape) where
   -- the spot of record t is that of a record of its role, whose place is t
   pub spot_back : (t : ℕ) → t < total (groups_of h) → Back (groups_of h) (spot_at (groups_of h) t) t
   spot_back = spot_place (groups_of h) distinct_groups
+
+-- the group at a place of the code's array, which has this role
+pub group_at : (h : Shape) (groups : List group.Group) (g : ℕ) (d : group.Group) {role : Role} → groups_shown groups ≡ groups_of h → g < 8 → (get_or groups g d).role ≡ role
+    → let own : Group = record { role = role_number role; count = count_of (groups_of h) (role_number role) } in get_or (groups_of h) g own ≡ own
+group_at h groups g d {role} e l is =
+    let own : Group = record { role = role_number role; count = count_of (groups_of h) (role_number role) } in
+    let here : get_or (groups_of h) g own ≡ group_shown (get_or groups g d) = ap (λ (gs : List Group). get_or gs g own) (sym e)
+    ∙ get_or-map group_shown groups g d own (omega (arith, length-map groups group_shown, ap (λ (gs : List Group). length gs) e, length_groups h)) in
+    let of_role : (get_or (groups_of h) g own).role ≡ role_number role = ap (λ (x : Group). x.role) here ∙ ap role_number is in
+    let count = count_at (groups_of h) (distinct_groups h) own g (omega (arith, length_groups h)) ∙ ap (count_of (groups_of h)) of_role in
+    ap₂ (λ (r n : ℕ). record { role = r; count = n }) of_role count
 
 -- records that are the same by role are the same, laid out
 pub laid_cong : (h : Shape) (f g : (role j : ℕ) → Rec) → ((role j : ℕ) → j < count_of (groups_of h) role → f role j ≡ g role j)

@@ -6,9 +6,10 @@ use native.Mathlib.Numerals.{add-one}
 use native.Mathlib.Omega.{arith}
 use lib.ListN.{length, get_or, take, drop, length-append}
 use lib.Seq.{take-suc, split_at, take-append_seam, drop_at}
+use lib.Dec.{lit<}
 use Rattle.whole.specs.Sum.{sum_ℕ}
-use Rattle.little_endian.specs.LittleEndian.{le_at, bytes_of}
-use Rattle.little_endian.proofs.LittleEndian.{le_at_between, length_bytes_of}
+use Rattle.little_endian.specs.LittleEndian.{Bytes, le_at, bytes_of}
+use Rattle.little_endian.proofs.LittleEndian.{le_at_between, length_bytes_of, bytes_append, bytes_bytes_of}
 use Rattle.records.specs.Record.{Rec, record_bytes, file_bytes}
 
 -- ---- one record
@@ -20,6 +21,10 @@ pub record Small (r : Rec) : Type 0 where
 pub length_record : (r : Rec) → length (record_bytes r) ≡ 4 + length r.body
 unfolding record_bytes
 length_record r = simp (length-append, length_bytes_of) (omega arith)
+
+pub bytes_record : (r : Rec) → Bytes r.body → Bytes (record_bytes r)
+unfolding record_bytes
+bytes_record r b = bytes_append (bytes_bytes_of 2 (length r.body)) (bytes_append (bytes_bytes_of 2 r.kind) b)
 
 -- a record stands at a place of s: its length, its kind and its body are read there
 pub record Stands (s : List ℕ) (at : ℕ) (r : Rec) : Type 0 where
@@ -60,6 +65,10 @@ module _ (before : List ℕ) (r : Rec) (after : List ℕ) where
   }
 
 -- ---- a file
+pub file_none : file_bytes [] ≡ []
+unfolding file_bytes
+file_none = refl
+
 pub file_append : (xs ys : List Rec) → file_bytes (xs ++ ys) ≡ file_bytes xs ++ file_bytes ys
 unfolding file_bytes
 file_append [] ys = refl
@@ -86,3 +95,8 @@ length_file rs d zero h = refl
 length_file rs d (suc t) h =
     ap (λ (u : ℕ). length (file_bytes (take u rs))) (sym (add-one t))
     ∙ omega (arith, length_more rs d t (omega arith), length_file rs d t (omega arith))
+
+pub bytes_file : (rs : List Rec) (d : Rec) → ((t : ℕ) → t < length rs → Bytes (get_or rs t d).body) → Bytes (file_bytes rs)
+unfolding file_bytes
+bytes_file [] d b = record { below = λ k. lit< tt }
+bytes_file (r ∷ rs) d b = bytes_append (bytes_record r (b 0 (omega arith))) (bytes_file rs d (λ t h. b (suc t) (omega arith)))

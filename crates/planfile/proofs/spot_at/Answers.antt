@@ -5,7 +5,7 @@ use native.Mathlib.Omega.{arith}
 use borrow.Author.Rules.{rules}
 use lib.ListN.{length}
 use Rattle.planfile.specs.Groups.{Group, groups_of, groups_shown, spot_at}
-use Rattle.planfile.proofs.Groups.{spot_first, spot_rest, spot_none}
+use Rattle.planfile.proofs.Groups.{shown_first, shown_rest, shown_none}
 use Rattle.planfile.proofs.spot_at.Goals as goal
 use Rattle.planfile.proofs.spot_at.Goals.{After-groups_of-group-items}
 
@@ -19,14 +19,14 @@ module _ (c : After-groups_of-group-items) where
 pub returns-then-index-group : goal.returns-then-index-group
 returns-then-index-group c =
     let d = (goal.at.returns-then-index-group c).After-groups_of-group-items in
-    sym (sym (here d) ∙ c.loop-group.invariant ∙ spot_first c.groups_of-group-items.result _ c.loop-group.group-index (omega (arith, few d)) c.loop-group.index c.if-index-group.true)
+    sym (sym (here d) ∙ c.loop-group.invariant ∙ shown_first c.groups_of-group-items.result _ c.loop-group.group-index (omega (arith, few d)) c.loop-group.index c.if-index-group.true)
 
 pub loop-group-preserved : goal.loop-group-preserved
 loop-group-preserved c =
     let d = (goal.at.loop-group-preserved c).After-groups_of-group-items in
-    c.loop-group.invariant ∙ spot_rest c.groups_of-group-items.result _ c.loop-group.group-index (omega (arith, few d)) c.loop-group.index c.if-index-group.false
+    c.loop-group.invariant ∙ shown_rest c.groups_of-group-items.result _ c.loop-group.group-index (omega (arith, few d)) c.loop-group.index c.if-index-group.false
 
 pub returns : goal.returns
 returns c =
     let d = (goal.at.returns c).After-groups_of-group-items in
-    sym (sym (here d) ∙ c.loop-group.invariant ∙ spot_none c.groups_of-group-items.result c.loop-group.group-index c.loop-group.index (omega (arith, few d)))
+    sym (sym (here d) ∙ c.loop-group.invariant ∙ shown_none c.groups_of-group-items.result c.loop-group.group-index c.loop-group.index (omega (arith, few d)))
