@@ -1,7 +1,7 @@
 -- The laws of bytes that are put down in a lent buffer.
 use mathlib.Core.Path.{◌≡◌, refl, sym, ap, ◌∙◌}
 use mathlib.Core.List.{List, [], ◌∷◌, ◌++◌, map, append_assoc, append-nil}
-use Prim.Native.Nat.{ℕ, ◌+◌, ◌≤◌, ◌<◌}
+use Prim.Native.Nat.{ℕ, zero, suc, ◌+◌, ◌≤◌, ◌<◌}
 use native.Mathlib.Nat.{mul-le-mul_left, mul-suc}
 use native.Mathlib.Omega.{arith}
 use native.Mathlib.Numerals.{add-one}
@@ -16,8 +16,8 @@ use Rattle.little_endian.proofs.Wrote.{wrote_none, wrote_then, wrote_length}
 use Rattle.whole.specs.Table.{table}
 use Rattle.whole.proofs.Table.{length_table, table_at}
 use Rattle.records.specs.Record.{Rec, record_bytes, file_bytes}
-use Rattle.records.proofs.Records.{file_more}
-use Rattle.planfile.specs.Groups.{none}
+use Rattle.records.proofs.Records.{file_more, file_append}
+use Rattle.planfile.specs.Groups.{Group, none, laid}
 use Rattle.planfile.specs.Rows.{rec}
 use Rattle.writer.specs.declared.Pen.{Pen}
 use Rattle.writer.specs.Put.{Free, Put}
@@ -137,6 +137,52 @@ module _ {n : ℕ} {f : ℕ → Rec} {p : Pen} where
       recorded_more a = record {
         put = put_as (sym (file_more (recs n f) none k inside ∙ ap (λ (r : Rec). file_bytes (take k (recs n f)) ++ record_bytes r) here)) (put_then s.put a);
         free = free_rest a (free_as rest s.free);
+      }
+
+-- ---- the records f of groups are to be put down, from the pen p on, and those of k groups are
+pub record Grouped (gs : List Group) (f : (role j : ℕ) → Rec) (p q : Pen) (k : ℕ) : Type 0 where
+  pub put : Put p q (file_bytes (laid (take k gs) f))
+  pub free : Free q (file_bytes (laid (drop k gs) f))
+
+module _ (f : (role j : ℕ) → Rec) where
+  abbrev pub group_bytes : Group → List ℕ
+  group_bytes g = file_bytes (table g.count g.count (f g.role) none)
+
+  before : (gs : List Group) (d : Group) (k : ℕ) → k < length gs → file_bytes (laid (take (suc k) gs) f) ≡ file_bytes (laid (take k gs) f) ++ group_bytes (get_or gs k d)
+  unfolding laid file_bytes
+  before [] d k h = absurd (omega arith)
+  before (g ∷ gs) d zero h = file_append (table g.count g.count (f g.role) none) [] ∙ append-nil (group_bytes g)
+  before (g ∷ gs) d (suc k) h =
+      let first = table g.count g.count (f g.role) none in
+      file_append first (laid (take (suc k) gs) f)
+      ∙ ap (λ (s : List ℕ). group_bytes g ++ s) (before gs d k (omega arith))
+      ∙ sym (append_assoc (group_bytes g) (file_bytes (laid (take k gs) f)) (group_bytes (get_or gs k d)))
+      ∙ ap (λ (s : List ℕ). s ++ group_bytes (get_or gs k d)) (sym (file_append first (laid (take k gs) f)))
+
+  after : (gs : List Group) (d : Group) (k : ℕ) → k < length gs → file_bytes (laid (drop k gs) f) ≡ group_bytes (get_or gs k d) ++ file_bytes (laid (drop (k + 1) gs) f)
+  unfolding laid
+  after gs d k h = rw (add-one, drop-cons gs k d h) (file_append (table (get_or gs k d).count (get_or gs k d).count (f (get_or gs k d).role) none) (laid (drop (suc k) gs) f))
+
+module _ {gs : List Group} {f : (role j : ℕ) → Rec} {p : Pen} where
+  pub grouped_none : Free p (file_bytes (laid gs f)) → Grouped gs f p p 0
+  unfolding laid file_bytes
+  grouped_none h = record { put = put_none p; free = h }
+
+  module _ {q : Pen} {k : ℕ} (s : Grouped gs f p q k) where
+    pub grouped_all : length gs ≤ k → Put p q (file_bytes (laid gs f))
+    grouped_all h = put_as (ap (λ (gs : List Group). file_bytes (laid gs f)) (take_all k gs h)) s.put
+
+    -- the next group
+    module _ {g : Group} (here : get_or gs k g ≡ g) (h : k < length gs) where
+      pub grouped_free : Free q (group_bytes f g)
+      grouped_free = free_first _ (free_as (after f gs g k h ∙ ap (λ (x : Group). group_bytes f x ++ file_bytes (laid (drop (k + 1) gs) f)) here) s.free)
+
+      pub grouped_more : {q' : Pen} → Put q q' (group_bytes f g) → Grouped gs f p q' (k + 1)
+      grouped_more a = record {
+        put = put_as
+            (ap (λ (x : Group). file_bytes (laid (take k gs) f) ++ group_bytes f x) (sym here) ∙ sym (before f gs g k h) ∙ ap (λ (n : ℕ). file_bytes (laid (take n gs) f)) (sym (add-one k)))
+            (put_then s.put a);
+        free = free_rest a (free_as (after f gs g k h ∙ ap (λ (x : Group). group_bytes f x ++ file_bytes (laid (drop (k + 1) gs) f)) here) s.free);
       }
 
 -- the bytes of one record

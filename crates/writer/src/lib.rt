@@ -1,24 +1,24 @@
 // The writer of plan files: a plan's records, one after the other, into a lent buffer.
 #![tactic(auto)]
 
-ghost use Rattle.std.specs.Prelude.{◌≡◌, ◌++◌, ◌+◌, ◌*◌, ◌≤◌, length, get_or, take, IfOk};
+ghost use Rattle.std.specs.Prelude.{◌≡◌, ◌++◌, ◌≤◌, ◌<◌, length, take, Some, IfOk};
 ghost use Rattle.little_endian.specs.LittleEndian.{bytes_of};
-ghost use Rattle.whole.specs.Sum.{sum_ℕ};
 ghost use Rattle.records.specs.Record.{record_bytes, file_bytes};
-ghost use Rattle.plan.specs.Held.{pattern_held, missing_pattern, held};
-ghost use Rattle.planfile.specs.Kinds.{kind_number};
+ghost use Rattle.plan.specs.Held.{pattern_held, held};
+ghost use Rattle.planfile.specs.Kinds.{kind_number, role_number};
+ghost use Rattle.planfile.specs.Groups.{spot_shown};
 ghost use Rattle.planfile.specs.Rows.{rec, head_rec, pattern_rec};
 ghost use Rattle.planfile.specs.Records.{file_of};
 ghost use Rattle.planfile.specs.Reading.{InRange};
 ghost use Rattle.planfile.specs.Answers.{write_shown};
 ghost use Rattle.planfile.specs.Write.{write_answer, buffer_after};
 ghost use Rattle.planfile.specs.Demand2.{OneFile};
-ghost use Rattle.writer.specs.Rows.{numbers_bytes, instrument_recs, pattern_recs, optional_recs, pattern_size};
+ghost use Rattle.writer.specs.Rows.{numbers_bytes, instrument_recs, pattern_recs, optional_recs, kind_at};
 ghost use Rattle.writer.specs.Put.{Free, Put};
 
 use little_endian::Number;
 use plan::{AcceptedPlan, Instrument, Pattern, Plan, Shape};
-use planfile::Kind;
+use planfile::{Kind, Role, Shaped, Spot};
 use refusal::Refusal;
 
 // A place in a lent buffer, before which stands what has been written.
@@ -146,68 +146,61 @@ impl Pen<'_> {
         ensures { Put self.old self.new (file_of (held accepted.entry.plan.now)) }
     {
         let plan = accepted.plan;
+        let shape = plan.shape();
         let years = plan.years;
         let n = plan.instruments;
-        self.head(plan.shape());
-        self.instruments(&plan.instrument[..n], years);
-        self.record(Kind::Outflows, &plan.outflows[..years]);
-        self.optional(Kind::Opening, &plan.opening, years);
-        self.optional(Kind::Cost, &plan.cost, n);
-        self.record(Kind::Rollover, &plan.rollover[..plan.terms]);
-        self.patterns(&plan.pattern[..plan.patterns], years);
-        self.record(Kind::Allocation, &plan.allocation[..n]);
+        for group in planfile::groups_of(shape) {
+            match group.role {
+                Role::Head => self.head(shape),
+                Role::Instrument => self.instruments(&plan.instrument[..n], years),
+                Role::Outflows => self.record(Kind::Outflows, &plan.outflows[..years]),
+                Role::Opening => self.optional(Kind::Opening, &plan.opening, years),
+                Role::Cost => self.optional(Kind::Cost, &plan.cost, n),
+                Role::Rollover => self.record(Kind::Rollover, &plan.rollover[..plan.terms]),
+                Role::Pattern => self.patterns(&plan.pattern[..plan.patterns], years),
+                Role::Allocation => self.record(Kind::Allocation, &plan.allocation[..n]),
+            }
+        }
     }
 }
 
-// The length of a record of n numbers.
-fn record_size<T: Number>(n: usize) -> usize
-    requires { n ≤ 30 }
-    ensures { result ≡ 4 + T.SIZE * n }
+// The kind of the record at a spot: a pattern's goes by its row, every other is the first of its role.
+fn kind_at(rows: &[Pattern], spot: Spot) -> Kind
+    requires { role_number spot.role ≡ 5 → spot.index < length rows.now }
+    ensures { kind_number result ≡ kind_at rows.now (spot_shown (Some spot)) }
 {
-    4 + T::SIZE * n
-}
-
-// The length of a pattern's record.
-fn pattern_size(row: &Pattern, years: usize) -> usize
-    requires some { 1 ≤ years }
-    requires few { years ≤ 30 }
-    ensures { result ≡ pattern_size years row.now }
-{
-    match row {
-        Pattern::Rates(_) => record_size::<i32>(years - 1),
-        Pattern::Slope { .. } => 4 + 9,
+    match spot.role {
+        Role::Head => Kind::Head,
+        Role::Instrument => Kind::Instrument,
+        Role::Outflows => Kind::Outflows,
+        Role::Opening => Kind::Opening,
+        Role::Cost => Kind::Cost,
+        Role::Rollover => Kind::Rollover,
+        Role::Pattern => match rows[spot.index] {
+            Pattern::Rates(_) => Kind::Rates,
+            Pattern::Slope { .. } => Kind::Slope,
+        },
+        Role::Allocation => Kind::Allocation,
     }
 }
 
-// The length of the patterns' records.
-fn patterns_size(rows: &[Pattern], years: usize) -> usize
-    requires few_rows { length rows.now ≤ 64 }
-    requires some { 1 ≤ years }
-    requires few { years ≤ 30 }
-    ensures is { result ≡ sum_ℕ (length rows.now) (λ t. pattern_size years (get_or rows.now t missing_pattern)) }
-    ensures short { result ≤ 7_680 }
-{
-    let mut size = 0;
-    for row in rows {
-        size += pattern_size(row, years);
-    }
-    size
-}
-
-// The length of the plan's file: each record has four bytes and its body.
+// The length of the plan's file: each record has four bytes and its body, whose length goes by its kind.
 fn file_size(accepted: AcceptedPlan<'_>) -> usize
     ensures { result ≡ length (file_of (held accepted.entry.plan.now)) }
 {
     let plan = accepted.plan;
-    let years = record_size::<i64>(plan.years);
-    record_size::<u8>(4)
-        + years * plan.instruments
-        + years
-        + years * usize::from(plan.opening.is_some())
-        + record_size::<i64>(plan.instruments) * usize::from(plan.cost.is_some())
-        + record_size::<u32>(plan.terms)
-        + patterns_size(&plan.pattern[..plan.patterns], plan.years)
-        + record_size::<u32>(plan.instruments)
+    let shaped = Shaped {
+        shape: plan.shape(),
+    };
+    let mut size = 0;
+    for t in 0..shaped.count() {
+        let Some(spot) = planfile::spot_at(shaped.shape, t) else {
+            return size;
+        };
+        let kind = kind_at(&plan.pattern, spot);
+        size += 4 + shaped.size_of(usize::from(u16::from(kind)));
+    }
+    size
 }
 
 // The plan's file in the first bytes of the buffer, and its length; or why there is none: the first of the checks 3, 6 to 9, with 13 right
