@@ -1,6 +1,5 @@
 // A plan that no check refuses.
 
-ghost use Rattle.plan.specs.Held.{Typed};
 ghost use Rattle.plan.specs.Numbers.{numbers};
 ghost use Rattle.plan.specs.Refusal.{Accepted};
 
@@ -10,5 +9,4 @@ use crate::Plan;
 pub struct AcceptedPlan<'a> {
     pub plan: &'a Plan,
     ghost accepted: { Accepted (numbers plan.now) },
-    ghost typed: { Typed plan.now },
 }

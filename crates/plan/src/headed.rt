@@ -122,6 +122,7 @@ impl<'a> HeadedPlan<'a> {
     // which comes after 8 and before 9.
     pub fn accepted(self, lists: Result<(), Refusal>) -> Result<AcceptedPlan<'a>, Refusal>
         ensures is { refusal_in result ≡ refusal_with (numbers self.entry.plan.now) (refusal_in lists) }
+        ensures typed { IfOk result (λ accepted. Typed self.entry.plan.now) }
         ensures plan { IfOk result (λ accepted. accepted.plan.now ≡ self.entry.plan.now) }
     {
         self.check_amounts()?;

@@ -7,7 +7,7 @@ mod headed;
 ghost use Rattle.std.specs.Prelude.{◌≡◌, true, ◌+◌, ◌-◌, ◌≤◌, ◌<◌, length, get_or, pos, IfOk};
 ghost use Rattle.refusal.specs.Number.{refusal_in};
 ghost use Rattle.whole.specs.Test.{pick, all, is_from, is_between};
-ghost use Rattle.plan.specs.Held.{no_plan, shape_of, instrument_held, is_slope, row_rates, row_start, row_step, row_until, pattern_held, amounts_in, SlopeTyped};
+ghost use Rattle.plan.specs.Held.{no_plan, shape_of, instrument_held, is_slope, row_rates, row_start, row_step, row_until, pattern_held, amounts_in, SlopeTyped, Typed};
 ghost use Rattle.plan.specs.Numbers.{payments_meant, slope, rates_meant, numbers};
 ghost use Rattle.plan.specs.Refusal.{check, most, shape_ok, head_refusal, refusal_of};
 
@@ -207,6 +207,7 @@ impl Plan {
     // All of the plan: the first of the checks 3 and 6 to 9, with 13 right before 8, that it fails.
     pub fn accepted(&self) -> Result<AcceptedPlan<'_>, Refusal>
         ensures is { refusal_in result ≡ refusal_of (numbers self.now) }
+        ensures typed { IfOk result (λ accepted. Typed self.now) }
         ensures plan { IfOk result (λ accepted. accepted.plan.now ≡ self.now) }
     {
         self.headed()?.accepted(Ok(()))

@@ -1,11 +1,11 @@
 -- `writer::write` goes by its checks, and each way out of it is a law.
-use mathlib.Core.Path.{◌≡◌, refl, sym, ap, ap₂, ◌∙◌, subst}
+use mathlib.Core.Path.{◌≡◌, refl, sym, ap, ap₂, ◌∙◌}
 use Prim.Native.Nat.{ℕ}
 use borrow.Author.Rules.{rules}
 use lib.ListN.{length}
 use lib.Seq.{sets}
 use Rattle.plan.specs.declared.Plan.{Plan}
-use Rattle.plan.specs.Held.{held, Typed}
+use Rattle.plan.specs.Held.{held}
 use Rattle.planfile.specs.Records.{file_of}
 use Rattle.std.proofs.lemmas.Result.{err_from_is_err_and}
 use Rattle.writer.specs.declared.Pen.{Pen}
@@ -55,4 +55,4 @@ returns-clause-kept c =
     let ok = c.in_ok-accepted.ensures in
     let same = sym c.file.ensures.same in
     written_kept _ _ (sym ok.is) (length_is ok.plan c.file_size-length.ensures) c.if-buffer-length.false (search rules ∙ put_is ok.plan refl c.file.ensures)
-    (subst Typed ok.plan c.in_ok-accepted.accepted.typed)
+    ok.typed

@@ -65,7 +65,7 @@ pub invariant_of-result : goal.invariant_of-result
 invariant_of-result c =
     let lists = after_lists c.args.self.head _ c.in_ok-check_amounts.ensures c.in_ok-check_rates.ensures.is (ap refusal_in c.in_ok-lists.was) in
     let done = whole _ (sym (c.is_whole.ensures ∙ allocation_ok_law c.args.self.plan.now) ∙ c.if-not-is_whole.false) in
-    record { accepted = accepted c.args.self.plan.now (plan_passes (numbers c.args.self.plan.now) (refusal_in c.args.lists) (lists ∙ sym done)); typed = c.in_ok-check_rates.ensures.typed }
+    record { accepted = accepted c.args.self.plan.now (plan_passes (numbers c.args.self.plan.now) (refusal_in c.args.lists) (lists ∙ sym done)) }
 
 pub returns-clause-is : goal.returns-clause-is
 returns-clause-is c =
