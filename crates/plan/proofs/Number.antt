@@ -1,7 +1,7 @@
 -- A refusal's number is none of an answer that is not refused.
-use mathlib.Core.Path.{◌≡◌}
+use mathlib.Core.Path.{◌≡◌, ap}
 use native.Mathlib.Omega.{arith}
-use Rattle.refusal.specs.Number.{number_of}
+use Rattle.refusal.specs.Number.{number_of, Numbering}
 use Rattle.refusal.specs.declared.Refusal.{Refusal}
 use Rattle.refusal.specs.declared.Refusal.TheVariants.{FileLength, Records, Head, Order, Size, Amount, Rollover, Rate, Allocation, PatternNumber, OutOfLimit, Room, Until, Lists, Parts}
 
@@ -21,3 +21,7 @@ number_some Room e = omega arith
 number_some Until e = omega arith
 number_some Lists e = omega arith
 number_some Parts e = omega arith
+
+-- refusals have their own numbers
+pub number_own : Numbering (λ refusal e. e ≡ refusal) number_of
+number_own = (λ refusal e same. ap number_of same, number_some)

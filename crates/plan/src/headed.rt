@@ -1,7 +1,7 @@
 // A plan whose head check 3 takes, and the rest of its checks.
 
-ghost use Rattle.std.specs.Prelude.{◌≡◌, true, ◌≤◌, length, get_or, pos, eqb, sum_by, IfOk};
-ghost use Rattle.refusal.specs.Number.{refusal_in};
+ghost use Rattle.std.specs.Prelude.{◌≡◌, ℕ, true, ◌≤◌, length, get_or, pos, eqb, sum_by, IfOk};
+ghost use Rattle.refusal.specs.Number.{refusal_in, number_in, Numbering};
 ghost use Rattle.whole.specs.Range.{million};
 ghost use Rattle.whole.specs.Test.{all, is_between};
 ghost use Rattle.plan.specs.Held.{amounts_in, Typed};
@@ -119,9 +119,12 @@ impl<'a> HeadedPlan<'a> {
     }
 
     // The rest of the checks: the first of 6 to 9, with 13 right before 8, that the plan fails. `lists` is what a call says of its own lists,
-    // which comes after 8 and before 9.
-    pub fn accepted(self, lists: Result<(), Refusal>) -> Result<AcceptedPlan<'a>, Refusal>
-        ensures is { refusal_in result ≡ refusal_with (numbers self.entry.plan.now) (refusal_in lists) }
+    // by errors of any kind that a refusal turns into; it comes after 8 and before 9.
+    pub fn accepted<E: From<Refusal> + Drop>(
+        self,
+        lists: Result<(), E>,
+    ) -> Result<AcceptedPlan<'a>, E>
+        ensures is { (number : E → ℕ) → Numbering E.from_gives number → number_in number result ≡ refusal_with (numbers self.entry.plan.now) (number_in number lists) }
         ensures typed { IfOk result (λ accepted. Typed self.entry.plan.now) }
         ensures plan { IfOk result (λ accepted. accepted.plan.now ≡ self.entry.plan.now) }
     {
@@ -129,7 +132,7 @@ impl<'a> HeadedPlan<'a> {
         self.check_rates()?;
         lists?;
         if !is_whole(&self.plan.allocation[..self.plan.instruments]) {
-            return Err(Refusal::Allocation);
+            return Err(E::from(Refusal::Allocation));
         }
         Ok(AcceptedPlan { plan: self.plan })
     }

@@ -1,5 +1,5 @@
 -- The number of each refusal, as the listing, the C library and the papers name it.
-use Rattle.std.specs.Prelude.{ℕ, Result, Ok, Err}
+use Rattle.std.specs.Prelude.{◌≡◌, ◌≢◌, ℕ, Result, Ok, Err}
 use Rattle.refusal.specs.declared.Refusal.{Refusal}
 use Rattle.refusal.specs.declared.Refusal.TheVariants.{FileLength, Records, Head, Order, Size, Amount, Rollover, Rate, Allocation, PatternNumber, OutOfLimit, Room, Until, Lists, Parts}
 
@@ -24,3 +24,12 @@ number_of Parts = 15
 abbrev pub refusal_in : {A : Type 0} → Result A Refusal → ℕ
 refusal_in (Ok x) = 0
 refusal_in (Err refusal) = number_of refusal
+
+-- the same of errors of any kind, by a number for each
+abbrev pub number_in : {A E : Type 0} → (number : E → ℕ) → Result A E → ℕ
+number_in number (Ok x) = 0
+number_in number (Err e) = number e
+
+-- numbers for errors of any kind: one that stands for a refusal has the refusal's, and none is 0
+abbrev pub Numbering : {E : Type 0} → (stands : Refusal → E → Type 0) → (number : E → ℕ) → Type 0
+Numbering {E} stands number = ((refusal : Refusal) (e : E) → stands refusal e → number e ≡ number_of refusal) × ((e : E) → number e ≢ 0)

@@ -2,12 +2,13 @@
 use mathlib.Core.Path.{◌≡◌, sym, ap, ◌∙◌}
 use native.Mathlib.Omega.{arith}
 use Rattle.std.proofs.lemmas.Result.{err_from_is_err_and}
-use Rattle.refusal.specs.Number.{refusal_in}
+use Rattle.refusal.specs.Number.{number_of, refusal_in}
 use Rattle.reckoning.specs.Arrays.{rates_of}
 use Rattle.plan.specs.Numbers.{Numbers, numbers}
 use Rattle.plan.specs.Refusal.{Head, head_refusal, refusal_with}
 use Rattle.plan.specs.declared.Plan.{Plan}
 use Rattle.plan.proofs.Checks.{head_passed}
+use Rattle.plan.proofs.Number.{number_own}
 use Rattle.patterns.specs.Pattern.{shared_of, flow_of}
 use Rattle.cash.specs.Shown.{cash_shown}
 use Rattle.cash.specs.Call.{lengths_refusal, lists_refusal}
@@ -53,7 +54,7 @@ returns-in_err-accepted c =
     let k = (goal.at.returns-in_err-accepted c).After-check in
     let l = (goal.at.After-check k).In_ok-lists in
     let p = err_from_is_err_and c.from_residual-in_err-accepted.result c.from_residual-in_err-accepted.ensures.1 in
-    let e = rw c.in_ok-headed.ensures.plan at c.in_err-accepted.ensures.is in
+    let e = rw c.in_ok-headed.ensures.plan at (c.in_err-accepted.ensures.is number_of number_own) in
     let a = cash_answered c.args.plan.now c.args.lending.now c.args.borrowing.now {s = cash_shown c.from_residual-in_err-accepted.result} (rw (p.1, p.2) (numbers_refused _ _ _ (head l) (long l) (said k) _ e)) in
     record { is = a.0; near = a.1.0; theorem = a.1.1.0; alike = a.1.1.1.0; uncosted = a.1.1.1.1 }
 
@@ -65,7 +66,7 @@ module _ (c : In_ok-accepted) where
   l = (goal.at.After-check k).In_ok-lists
 
   none : 0 ≡ refusal_with (P l) (refusal_in c.check.result)
-  none = rw c.in_ok-headed.ensures.plan at c.in_ok-accepted.ensures.is
+  none = rw c.in_ok-headed.ensures.plan at (c.in_ok-accepted.ensures.is number_of number_own)
 
   same : c.in_ok-accepted.accepted.plan.now ≡ c.args.plan.now
   same = c.in_ok-accepted.ensures.plan ∙ c.in_ok-headed.ensures.plan

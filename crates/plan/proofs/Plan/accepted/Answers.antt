@@ -6,7 +6,7 @@ use Rattle.refusal.specs.declared.Refusal.{Refusal}
 use Rattle.plan.specs.declared.Plan.{Plan}
 use Rattle.plan.specs.Numbers.{Numbers, numbers}
 use Rattle.plan.specs.Refusal.{head_refusal, refusal_of, refusal_with}
-use Rattle.plan.proofs.Number.{number_some}
+use Rattle.plan.proofs.Number.{number_some, number_own}
 use Rattle.plan.proofs.Checks.{first_some}
 use Rattle.plan.proofs.Plan.accepted.Goals as goal
 
@@ -24,4 +24,4 @@ returns-in_err-headed-clause-is c =
     rw (p.1, p.2) (at_head _ _ c.in_err-headed.ensures.is)
 
 pub returns-clause-is : goal.returns-clause-is
-returns-clause-is c = c.accepted.ensures.is ∙ no_lists _ ∙ ap (λ (plan : Plan). refusal_of (numbers plan)) c.in_ok-headed.ensures.plan
+returns-clause-is c = c.accepted.ensures.is number_of number_own ∙ no_lists _ ∙ ap (λ (plan : Plan). refusal_of (numbers plan)) c.in_ok-headed.ensures.plan
