@@ -24,8 +24,8 @@ use Rattle.whole.proofs.Entry.{entry_each, entry_own}
 use Rattle.whole.proofs.Table.{table_at}
 use Rattle.whole.proofs.Sum.{sum_ℕ_none, sum_ℕ_first, sum_ℕ_const, Σℕ_from}
 use Rattle.whole.proofs.Test.{false_true, both_first, both_second, all_yes, all_at, all_cong, between_fact, between_yes, from_low, from_high, from_yes, pick_few}
-use Rattle.plan.specs.Held.{Held, is_slope, row_until, pattern_held, amounts_in, missing_pattern, outflows_held, opening_held, cost_held, SlopeTyped, Typed}
-use Rattle.plan.specs.Numbers.{Numbers, rate_in, rate_of, until_of, rates_meant, meaning, numbers}
+use Rattle.plan.specs.Held.{HeldInstrument, Held, instrument_held, is_slope, row_until, pattern_held, amounts_in, missing_pattern, outflows_held, opening_held, cost_held, SlopeTyped, Typed}
+use Rattle.plan.specs.Numbers.{Numbers, rate_in, rate_of, until_of, payments_meant, rates_meant, meaning, numbers}
 use Rattle.plan.specs.Refusal.{
   check,
   first_of,
@@ -57,7 +57,7 @@ use Rattle.plan.specs.declared.Instrument.{Instrument}
 use Rattle.plan.specs.declared.Pattern.{Pattern}
 use Rattle.plan.specs.declared.Plan.{Plan}
 use Rattle.plan.proofs.All.{all_first}
-use Rattle.plan.proofs.Held.{pattern_is, outflow_is, opening_is, cost_is, cost_none, rollover_is, rollover_past, allocation_is, payment_is, rate_is, until_is, instrument_each, pattern_each}
+use Rattle.plan.proofs.Held.{instrument_is, pattern_is, outflow_is, opening_is, cost_is, cost_none, rollover_is, rollover_past, allocation_is, payment_is, rate_is, until_is, instrument_each, pattern_each}
 
 -- ---- each test of an array is the test of the numbers that stand there
 -- each of some amounts lies between two bounds
@@ -80,7 +80,7 @@ sum_first (suc n) (x ∷ xs) = sum_by-cons (λ y. y) x (take n xs) ∙ ap (λ (s
 
 -- what an instrument pays, the rates of a pattern, and T where it is a slope
 abbrev pub payments_tested : (years : ℕ) → Instrument → Bool
-payments_tested years row = all_in (pos 0) (pos most) (take years row.payments)
+payments_tested years row = all_in (pos 0) (pos most) (take years (payments_meant years (instrument_held years row)))
 
 abbrev pub rates_tested : (years : ℕ) → Pattern → Bool
 rates_tested years row = all_in (pos 0) (pos top) (take (years - 1) (rates_meant years (pattern_held years row)))
@@ -108,13 +108,19 @@ unfolding untils_ok
 untils_none H none = all_yes H.shape.patterns _ (λ t h. rw (none (1 + t)))
 
 module _ (plan : Plan) where
-  pub payments_ok_law : rows_pass (record { payments = [] }) (payments_tested plan.years) (take plan.instruments plan.instrument) ≡ payments_ok (numbers plan)
+  -- what an instrument pays fills an array
+  payments_row : (years : ℕ) (row : Instrument) → years ≤ 30 → payments_tested years row ≡ all years (λ k. is_between (pos 0) (pos most) ((instrument_held years row).payment (1 + k)))
+  payments_row years row few =
+      first_in (pos 0) (pos most) years _ (omega whole)
+      ∙ all_cong years _ _ (λ k l. ap (is_between (pos 0) (pos most)) (table_at 30 years (λ k. (instrument_held years row).payment (1 + k)) (pos 0) (pos 0) k l few))
+
+  pub payments_ok_law : plan.years ≤ 30 → rows_pass (record { payments = [] }) (payments_tested plan.years) (take plan.instruments plan.instrument) ≡ payments_ok (numbers plan)
   unfolding payments_ok payments_fit
-  payments_ok_law =
-      all_first plan.instrument _ plan.instruments (payments_tested plan.years) (first_in (pos 0) (pos most) plan.years [] (omega whole) ∙ none_in most plan.years)
+  payments_ok_law few =
+      all_first plan.instrument _ plan.instruments (payments_tested plan.years) (payments_row plan.years (record { payments = [] }) few ∙ all_yes plan.years _ (λ k l. between_yes _ _ _ (entry_each (pos 0) plan.years _ (Between (pos 0) (pos most)) (omega whole) (λ k l. omega whole) (1 + k))))
       ∙ all_cong plan.instruments _ _ (λ j h.
-      first_in (pos 0) (pos most) plan.years _ (omega whole)
-      ∙ all_cong plan.years _ _ (λ k l. ap (is_between (pos 0) (pos most)) (sym (payment_is plan j k h l))))
+      payments_row plan.years _ few
+      ∙ all_cong plan.years _ _ (λ k l. ap (λ (a : HeldInstrument). is_between (pos 0) (pos most) (a.payment (1 + k))) (sym (instrument_is plan j h))))
 
   -- the rates of a pattern fill an array
   rates_row : (years : ℕ) (row : Pattern) → years ≤ 30 → rates_tested years row ≡ all (years - 1) (λ l. is_between (pos 0) (pos top) (rate_in (pattern_held years row) l))

@@ -49,7 +49,7 @@ impl<'a> HeadedPlan<'a> {
         let years = self.plan.years;
         let rows = &self.plan.instrument[..self.plan.instruments];
         rows.iter()
-            .all(|row| all_between(&row.payments[..years], 0, MOST))
+            .all(|row| all_between(&row.payments(years)[..years], 0, MOST))
     }
 
     // Check 6, the outflows.

@@ -14,4 +14,4 @@ returns c =
     let plan = c.args.self.plan.now in
     all_ran (record { payments = [] }) (payments_tested plan.years) _ _ _ c.all.ensures.ran (YieldsList-from_slice (take plan.instruments plan.instrument) cc)
     (λ x q k. search (rules, tests)) (λ x q k. search (rules, tests))
-    ∙ payments_ok_law plan
+    ∙ payments_ok_law plan c.args.self.head.years_few
