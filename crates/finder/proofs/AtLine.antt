@@ -3,7 +3,7 @@ use mathlib.Core.Path.{◌≡◌, refl, sym, ap, ap₂, ◌∙◌, subst}
 use mathlib.Core.Bool.{Bool, true, false}
 use mathlib.Core.List.{List, [], ◌∷◌}
 use mathlib.Core.Logic.{⊎_elim}
-use Prim.Native.Nat.{ℕ, zero, suc, ◌+◌, ◌-◌, ◌*◌, ◌^◌, ◌≤◌, ◌<◌}
+use Prim.Native.Nat.{ℕ, zero, suc, ◌+◌, ◌*◌, ◌^◌, ◌≤◌, ◌<◌}
 use native.Mathlib.Omega.{arith}
 use lib.ListN.{get_or, replicate, get_or-replicate}
 use lib.IntN.{ℤ, pos, negsuc, ◌+ℤ◌, ◌*ℤ◌, +ℤ_idr, zero-*ℤ}
@@ -12,11 +12,11 @@ use Rattle.whole.specs.Range.{million, limit, Between, Within}
 use Rattle.whole.specs.Floor.{floor}
 use Rattle.whole.specs.Sum.{sum, Σℤ}
 use Rattle.whole.specs.Test.{both}
-use Rattle.whole.proofs.Bridge.{whole, at, same, #, ◌⊕◌, ◌⊗◌}
+use Rattle.whole.proofs.Bridge.{whole, at, #, ◌⊕◌, ◌⊗◌}
 use Rattle.whole.proofs.Laws.{ℕ_cases, ℤ_cases}
 use Rattle.whole.proofs.Range.{within_more, within_add, within_mul, within_pos}
 use Rattle.whole.proofs.Floor.{is_floor}
-use Rattle.whole.proofs.Sum.{sum_split, sum_zeros, Σℤ_from}
+use Rattle.whole.proofs.Sum.{sum_zeros, Σℤ_from}
 use Rattle.whole.proofs.Test.{both_second, both_not, all_at, le_true, le_le_Z, between_fact}
 use Rattle.whole.proofs.Table.{table_at, table_past}
 use Rattle.reckoning.specs.Reckoning.{fund}
@@ -28,18 +28,11 @@ use Rattle.plan.specs.Refusal.{Accepted}
 use Rattle.plan.specs.declared.Plan.{Plan}
 use Rattle.plan.proofs.Held.{allocation_is}
 use Rattle.patterns.specs.Pattern.{Shared, shared_of, fund_at, bound_at, coefficient_at, constant_at, value_at, flow_fits, coefficients_fit, constant_fits, coefficients_at}
+use Rattle.patterns.proofs.Weighing.{sum_upto}
 use Rattle.planner.specs.Calls.{exact_fund, bound_of}
 use Rattle.planner.specs.Verdict.{row_fits, fund_of}
 use Rattle.planner.proofs.Demand3.{pattern_form_close, fund_below}
 use Rattle.finder.specs.Lines.{line_from, over_all, line_of, fund_passes, height_over}
-
--- ---- a sum to m whose terms from n on are 0
-sum_upto : (n m : ℕ) (g : ℕ → ℤ) → n ≤ m → ((j : ℕ) → n ≤ j → j < m → g j ≡ pos 0) → sum n g ≡ sum m g
-sum_upto n m g few none =
-    let e : n + (m - n) ≡ m = omega arith in
-    same (# (sum n g)) (# (sum n g) ⊕ # (pos 0)) (omega arith)
-    ∙ ap (λ (z : ℤ). sum n g +ℤ z) (sym (sum_zeros (m - n) (λ k. g (n + k)) (λ k l. none (n + k) (omega arith) (omega arith))))
-    ∙ sym (sum_split n (m - n) g) ∙ ap (λ (k : ℕ). sum k g) e
 
 -- ---- a line by its places
 pub coefficient_in : (k : List ℤ) (c : ℤ) (j : ℕ) → j < 4 → get_or (line_from k c) j (pos 0) ≡ get_or k j (pos 0)

@@ -10,7 +10,7 @@ use Rattle.whole.specs.Range.{million}
 use Rattle.whole.specs.Sum.{sum_ℕ}
 use Rattle.whole.specs.Test.{both, all}
 use Rattle.whole.proofs.Range.{within_pos}
-use Rattle.whole.proofs.Sum.{sum_cong, sum_ℕ_cong}
+use Rattle.whole.proofs.Sum.{sum_cong}
 use Rattle.whole.proofs.Test.{all_cong}
 use Rattle.reckoning.specs.declared.NewMoney.{NewMoney}
 use Rattle.plan.specs.Held.{instruments_held, outflows_held, rollover_held, patterns_held, allocation_held, opening_held, cost_held}
@@ -26,7 +26,7 @@ use Rattle.finder.specs.Lines.{line_of, fund_passes, height_over, wide_of}
 use Rattle.finder.specs.Search.{numbers_in, below_none, looked, passes, RatesOf, LinesOf}
 use Rattle.finder.specs.declared.lines.Line.{Line}
 use Rattle.finder.proofs.ListLaws.{list_all_is}
-use Rattle.finder.proofs.Order.{wide_at}
+use Rattle.finder.proofs.Order.{wide_at, wide_whole}
 use Rattle.finder.proofs.Replaced.{replaced, replaced_numbers, accepted_with, all_both, solvent_is}
 use Rattle.finder.proofs.AtLine.{looked_at}
 
@@ -55,11 +55,8 @@ module _ (plan : Plan) (ok : Accepted (numbers plan)) (few : plan.instruments �
     abbrev S : Shared
     S = shared_of (allocated (numbers plan) (wide_of shares))
 
-    wide_whole : sum_ℕ plan.instruments (λ j. get_or (wide_of shares) j 0) ≡ million
-    wide_whole = sym (sum_ℕ_cong plan.instruments _ _ (λ j l. wide_at shares j (omega arith))) ∙ whole
-
     replaced_ok : Accepted (numbers (replaced plan (wide_of shares)))
-    replaced_ok = subst Accepted (sym (replaced_numbers plan (wide_of shares))) (accepted_with plan ok (wide_of shares) wide_whole)
+    replaced_ok = subst Accepted (sym (replaced_numbers plan (wide_of shares))) (accepted_with plan ok (wide_of shares) (wide_whole plan.instruments shares few whole))
 
     -- no line sees the allocation: those of the plan with these shares are the plan's own
     looked_with : (t : ℕ) → both (le_z (pos 0) (height_over (line_of (shared_of (numbers plan)) (rate_in t)) (wide_of shares))) (fund_passes S (rate_in t))
@@ -85,4 +82,4 @@ module _ (plan : Plan) (ok : Accepted (numbers plan)) (few : plan.instruments �
 
     pub passes_is : passes common rates lines shares ≡ solvent_with (numbers plan) (wide_of shares)
     unfolding passes
-    passes_is = ap₂ both below_is looked_is ∙ all_both m _ _ ∙ all_cong m _ _ (λ t l. looked_with (1 + t)) ∙ sym (solvent_is plan ok (wide_of shares) wide_whole)
+    passes_is = ap₂ both below_is looked_is ∙ all_both m _ _ ∙ all_cong m _ _ (λ t l. looked_with (1 + t)) ∙ sym (solvent_is plan ok (wide_of shares) (wide_whole plan.instruments shares few whole))

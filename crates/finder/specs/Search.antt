@@ -2,11 +2,13 @@
 use Rattle.std.specs.Prelude.{◌≡◌, Bool, List, [], ℕ, ◌+◌, ◌<◌, length, get_or, pos, ℤ, true, Option, Some, None}
 use Rattle.std.specs.Int.Signed.{le_z}
 use Rattle.std.specs.List.{list_all}
+use Rattle.whole.specs.Range.{million}
+use Rattle.whole.specs.Sum.{sum_ℕ}
 use Rattle.whole.specs.Test.{both}
 use Rattle.reckoning.specs.Arrays.{rates_of}
 use Rattle.reckoning.specs.declared.NewMoney.{NewMoney}
 use Rattle.plan.specs.Numbers.{Numbers}
-use Rattle.patterns.specs.Arrays.{shared_in}
+use Rattle.patterns.specs.Arrays.{shared_in, Allocated}
 use Rattle.patterns.specs.declared.common.Common.{Common}
 use Rattle.finder.specs.declared.lines.Line.{Line}
 use Rattle.finder.specs.declared.splits.Split.{Split}
@@ -17,6 +19,10 @@ use Rattle.finder.specs.Lines.{line_from, line_of, fund_passes, height_over, wid
 -- a line's five numbers
 abbrev pub numbers_in : Line → List ℤ
 numbers_in line = line_from line.coefficients line.constant
+
+-- shares of 1,000,000 together can be looked at
+abbrev pub Looks : Common → Type 0
+Looks c = (shares : List ℕ) → sum_ℕ c.instruments (λ j. get_or shares j 0) ≡ million → Allocated c (wide_of shares)
 
 -- four shares lie below none of the lines
 unfoldable pub below_none : (lines : List Line) (shares : List ℕ) → Bool

@@ -1,9 +1,11 @@
 // The recursion over the instruments.
 
-ghost use Rattle.std.specs.Prelude.{◌≡◌, ◌≤◌};
+ghost use Rattle.std.specs.Prelude.{◌≡◌, ◌≤◌, get_or};
+ghost use Rattle.whole.specs.Range.{million};
+ghost use Rattle.whole.specs.Sum.{sum_ℕ};
 ghost use Rattle.finder.specs.Find.{first_that};
 ghost use Rattle.finder.specs.Placing.{Placing, placements};
-ghost use Rattle.finder.specs.Search.{below_none, looked, passes, split_shown};
+ghost use Rattle.finder.specs.Search.{Looks, below_none, looked, passes, split_shown};
 
 use crate::lines::Line;
 use crate::looks::Look;
@@ -19,6 +21,7 @@ pub struct Search<'a> {
     pub lines: &'a [Line],
     pub unit: u32,
     ghost instruments_few: { common.now.instruments ≤ 4 },
+    ghost looks: { Looks common.now },
 }
 
 impl Search<'_> {
@@ -31,6 +34,7 @@ impl Search<'_> {
 
     // Check 11 takes the fund of the allocation of these shares in each pattern, and it is zero or more; the first where it is not ends the look.
     fn look(&self, split: Split) -> bool
+        requires { sum_ℕ self.now.common.now.instruments (λ j. get_or split.shares j 0) ≡ million }
         ensures { result ≡ looked self.now.common.now self.now.rates.now split.shares }
     {
         let allocation = Allocation {

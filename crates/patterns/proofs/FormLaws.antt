@@ -3,7 +3,7 @@ use mathlib.Core.Path.{◌≡◌, refl, sym, ap, ap₂, ◌∙◌}
 use mathlib.Core.List.{List}
 use Prim.Native.Nat.{ℕ, ◌+◌, ◌*◌, ◌<◌}
 use native.Mathlib.Omega.{arith}
-use lib.ListN.{length, get_or}
+use lib.ListN.{get_or}
 use lib.IntN.{ℤ, pos, ◌+ℤ◌, ◌*ℤ◌, +ℤ_idr}
 use mir.Syntax.{w64}
 use mir.Val.{SFits}
@@ -13,7 +13,7 @@ use Rattle.whole.proofs.Range.{within_add, within_fits}
 use Rattle.whole.proofs.Floor.{floor_within}
 use Rattle.whole.proofs.Sum.{Σℤ_from}
 use Rattle.whole.proofs.Test.{both_second, both_not, all_at, between_fact}
-use Rattle.whole.proofs.Table.{table_at, length_table}
+use Rattle.whole.proofs.Table.{table_at}
 use Rattle.reckoning.specs.Bound.{h, B, value}
 use Rattle.reckoning.specs.Arrays.{alphas_fit, fund_fits, fund_reckoned}
 use Rattle.reckoning.specs.Answers.{Reckoned}
@@ -23,7 +23,7 @@ use Rattle.patterns.specs.Prepared.{Parts}
 use Rattle.patterns.specs.Arrays.{shared_in, Weighable}
 use Rattle.patterns.specs.declared.common.Common.{Common}
 use Rattle.patterns.specs.Answers.{Coefficients}
-use Rattle.patterns.proofs.Weighing.{weighed_by, parts_first, part_at}
+use Rattle.patterns.proofs.Weighing.{weighed_by, part_at}
 use Rattle.patterns.proofs.FormLoops.{coefficients_refused, coefficients_number, coefficients_fit_law, coefficients_are}
 use Rattle.patterns.proofs.Reckoned.{reckoned_refused, reckoned_fits, reckoned_is, reckoned_number}
 
@@ -71,15 +71,11 @@ module _ (common : Common) (shares : List ℕ) (i : ℕ → ℤ) {c : Coefficien
   unfolding coefficient_at coefficients_fit fund_fits
   coefficient_within j l = between_fact _ _ _ (both_second (alphas_fit S.r i (λ k. S.a k (1 + j)) S.years) _ (all_at common.instruments _ j l (coefficients_fit_law S i e none)))
 
-  pub coefficients_long : length c.values ≡ 16
-  unfolding coefficients_at
-  coefficients_long = rw (coefficients_are S i e none) (length_table 16 common.instruments (λ j. coefficient_at S i (1 + j)) (pos 0) common.prepared.few)
-
-  pub weighable : Parts shares → Weighable common.instruments c.values shares
+  pub weighable : Parts common.instruments shares → Weighable common.instruments c.values shares
   weighable parts = record {
     few = common.prepared.few;
     amount = λ j l. rw (coefficient_at_law j l) (coefficient_within j l);
-    parts = parts_first shares common.instruments common.prepared.few parts;
+    parts = parts;
   }
 
   -- the sum of the coefficients, each times its part, in whole amounts, and Q

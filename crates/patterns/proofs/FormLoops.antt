@@ -5,7 +5,7 @@ use mathlib.Core.List.{List, []}
 use Prim.Native.Nat.{ℕ, ◌+◌, ◌≤◌, ◌<◌}
 use native.Mathlib.Omega.{arith}
 use lib.ListN.{length, get_or, set, take, replicate}
-use Rattle.std.proofs.lemmas.List.{length-take, get_or-take, get_or-map}
+use Rattle.std.proofs.lemmas.List.{length-take, get_or-take}
 use lib.IntN.{ℤ, pos, ◌+ℤ◌}
 use Rattle.whole.specs.Test.{all}
 use Rattle.whole.proofs.Filling.{Filling, fill_start, fill_turn, fill_as}
@@ -13,25 +13,21 @@ use Rattle.whole.proofs.Test.{picked_yes, picked_no, picked_is, all_none, all_mo
 use Rattle.reckoning.specs.Reckoning.{fund}
 use Rattle.reckoning.specs.Arrays.{amounts_of, fund_fits, fund_reckoned}
 use Rattle.reckoning.specs.Answers.{Reckoned}
-use Rattle.reckoning.specs.declared.Flow.{Flow}
-use Rattle.patterns.specs.Prepared.{row_of}
 use Rattle.patterns.specs.Pattern.{Shared, coefficient_at, coefficients_fit, coefficients_at, coefficients_reckoned}
 use Rattle.patterns.specs.Answers.{Coefficients}
 use Rattle.patterns.proofs.Reckoned.{reckoned_refused, reckoned_fits, reckoned_is, reckoned_number}
 
--- the flow f at place j of the first n: its row, and its fund with an amount left, as the row's
-module _ (flows : List Flow) (n j : ℕ) (l : j < length (take n flows)) where
+-- the row at place j of the first n, and its fund with an amount left
+module _ (rows : List (List ℤ)) (n j : ℕ) (l : j < length (take n rows)) where
   pub row_few : j < n
-  row_few = omega (arith, l, length-take n flows)
+  row_few = omega (arith, l, length-take n rows)
 
-  row_is : (f : Flow) → f ≡ get_or (take n flows) j f → f.amounts ≡ row_of flows j
-  row_is f is =
-      ap (λ (f : Flow). f.amounts) (is ∙ get_or-take n flows j f row_few)
-      ∙ sym (get_or-map (λ (f : Flow). f.amounts) flows j f [] (omega (arith, l, length-take n flows)))
+  pub row_is : get_or (take n rows) j [] ≡ get_or rows j []
+  row_is = get_or-take n rows j [] row_few
 
-  pub row_reckoned : (r : ℕ → ℕ) (i : ℕ → ℤ) (N : ℕ) (f : Flow) → f ≡ get_or (take n flows) j f → {z cost : ℤ} → z ≡ cost
-      → {s : Reckoned} → s ≡ fund_reckoned r i (amounts_of f.amounts) N z → s ≡ fund_reckoned r i (amounts_of (row_of flows j)) N cost
-  row_reckoned r i N f is same e = e ∙ ap₂ (λ (f : List ℤ) (z : ℤ). fund_reckoned r i (amounts_of f) N z) (row_is f is) same
+  pub row_reckoned : (r : ℕ → ℕ) (i : ℕ → ℤ) (N : ℕ) {z cost : ℤ} → z ≡ cost
+      → {s : Reckoned} → s ≡ fund_reckoned r i (amounts_of (get_or (take n rows) j [])) N z → s ≡ fund_reckoned r i (amounts_of (get_or rows j [])) N cost
+  row_reckoned r i N same e = e ∙ ap₂ (λ (f : List ℤ) (z : ℤ). fund_reckoned r i (amounts_of f) N z) row_is same
 
 -- k has the funds of the flows f 0 to f (j - 1), each with the cost at its place, and check 11 takes them
 pub record Funded (r : ℕ → ℕ) (i : ℕ → ℤ) (f : ℕ → ℕ → ℤ) (cost : ℕ → ℤ) (N n : ℕ) (k : List ℤ) (j : ℕ) : Type 0 where

@@ -6,13 +6,10 @@ use mathlib.Core.List.{List, []}
 use Prim.Native.Nat.{ℕ, zero, suc, ◌+◌, ◌-◌, ◌≤◌, ◌<◌}
 use native.Mathlib.Nat.{le_of_eq}
 use native.Mathlib.Omega.{arith}
-use lib.ListN.{length, get_or, replicate, get_or-replicate}
+use lib.ListN.{get_or, replicate, get_or-replicate}
 use mir.Syntax.{w64}
 use mir.Val.{SFits}
 use lib.IntN.{ℤ, pos, nat_abs, ◌-ℤ◌}
-use denote.Param.Members.{Mut, Called}
-use Rattle.std.specs.Array.{IsFromFnResult}
-use Rattle.std.proofs.lemmas.List.{length-map, get_or-map, ext_get_or}
 use Rattle.whole.specs.Range.{million, limit, Between, Within}
 use Rattle.whole.specs.Table.{table}
 use Rattle.whole.specs.Entry.{nth, entry}
@@ -20,22 +17,20 @@ use Rattle.whole.proofs.Bridge.{whole}
 use Rattle.whole.proofs.Laws.{ℕ_cases}
 use Rattle.whole.proofs.Range.{within_more, within_sub, within_pos, within_fits}
 use Rattle.whole.proofs.Sum.{Σℕ_from, sum_ℕ_one}
-use Rattle.whole.proofs.Table.{length_table, table_at, table_past, table_each, table_cong}
-use Rattle.whole.proofs.Made.{made_each}
+use Rattle.whole.proofs.Table.{table_at, table_each, table_cong}
 use Rattle.whole.proofs.Entry.{entry_in, entry_past, entry_zero, entry_beyond, entry_cong, table_held}
 use Rattle.reckoning.specs.Arrays.{shares_of, rates_of, amounts_of, Terms, Rates, Amounts}
-use Rattle.reckoning.specs.declared.Flow.{Flow}
 use Rattle.plan.specs.Held.{HeldInstrument, unheld_instrument, instrument_held, instrument_at, pattern_held, pattern_at, amounts_in, allocation_held, cost_held, held}
 use Rattle.plan.specs.Numbers.{Numbers, rate_in, payments_meant, rates_meant, numbers}
 use Rattle.plan.specs.Refusal.{most, Accepted}
 use Rattle.plan.specs.declared.Plan.{Plan}
 use Rattle.plan.proofs.Held.{instrument_is, outflow_is, opening_is, allocation_is, payment_before, payment_past, outflow_before, outflow_past, opening_before, opening_past, cost_is, rollover_before, rate_is, tidy_held}
-use Rattle.patterns.specs.Pattern.{shared_of}
-use Rattle.patterns.specs.Prepared.{rows_of, row_of, Prepared, Parts}
-use Rattle.patterns.specs.Arrays.{rollover_array, rates_array, constant_array, payments_row, payments_rows, IsOf, parts_of, shared_in, shared_with}
+use Rattle.patterns.specs.Pattern.{shared_of, flow_of}
+use Rattle.patterns.specs.Prepared.{Prepared, Parts}
+use Rattle.patterns.specs.Arrays.{rollover_array, rates_array, constant_array, payments_row, payments_rows, IsOf, parts_of, shared_in, shared_with, Allocated}
 use Rattle.patterns.specs.declared.common.Common.{Common}
 use Rattle.patterns.proofs.Weighing.{parts_table}
-use Rattle.patterns.proofs.Flows.{flow_most, flow_none}
+use Rattle.patterns.proofs.Flows.{flow_most, flow_none, flow_held_law}
 
 -- ---- the payments and the flow of Q
 module _ {P : Numbers} (ok : Accepted P) where
@@ -114,10 +109,6 @@ module _ (plan : Plan) (ok : Accepted (numbers plan)) where
   unfolding payments_rows
   row_is j h = table_at 16 plan.instruments (payments_row P) _ [] j h ok.head.instruments_few
 
-  pub row_past : (j : ℕ) → plan.instruments ≤ j → j < 16 → get_or (payments_rows P) j [] ≡ replicate 30 (pos 0)
-  unfolding payments_rows
-  row_past = table_past 16 plan.instruments (payments_row P) _ []
-
   row_held : (j : ℕ) → j < plan.instruments → amounts_of (get_or (payments_rows P) j []) ≡ (λ k. P.a k (1 + j))
   unfolding amounts_of payments_row
   row_held j h = rw (row_is j h) (fun_ext (table_held (pos 0) (λ k. P.a k (1 + j)) ok.head.years_few (payment_before plan (1 + j)) (λ k l. payment_past plan k (1 + j) l)))
@@ -132,17 +123,6 @@ module _ (plan : Plan) (ok : Accepted (numbers plan)) where
   pub shared_held : {c : Common} → IsOf plan c → (shares : List ℕ) → shared_in c shares ≡ shared_with P (parts_of plan.instruments shares)
   unfolding cost_held
   shared_held e shares = rw (e.years, e.rollover, e.instruments, e.payments, e.constant, e.cost, payments_held, constant_held, rollover_held_law)
-
-  -- flows that a closure makes, each with the payments of its instrument
-  pub rows_made : {F : Type 0} {g : Mut F (ℕ × Unit {0}) Flow} {k : F} {flows : List Flow} → IsFromFnResult g k flows 16
-      → ((j : ℕ) (y : Flow) (q : F) → j < 16 → Called g k (j, tt) y q → (q ≡ k) × (y.amounts ≡ get_or (payments_rows P) j [])) → rows_of flows ≡ payments_rows P
-  unfolding payments_rows
-  rows_made {flows = flows} made each =
-      let none : Flow = record { amounts = replicate 30 (pos 0); within = no_amounts } in
-      let few : length (rows_of flows) ≡ 16 = length-map flows (λ (f : Flow). f.amounts) ∙ made.long in
-      ext_get_or [] (rows_of flows) (payments_rows P) (few ∙ sym (length_table 16 plan.instruments (payments_row P) (replicate 30 (pos 0)) ok.head.instruments_few))
-      (λ j l. get_or-map (λ (f : Flow). f.amounts) flows j none [] (omega (arith, l, few, made.long))
-      ∙ made_each made (λ j (f : Flow). f.amounts ≡ get_or (payments_rows P) j []) each j none (omega (arith, l, few)))
 
   -- ---- and their ranges
   pub terms : Terms plan.terms (rollover_array P)
@@ -174,7 +154,7 @@ module _ (plan : Plan) (ok : Accepted (numbers plan)) where
   constant_fit = amounts (λ k. (shared_of P).constant_flow (1 + k)) (λ k. within_more (omega arith) (constant_within ok (1 + k)))
 
   -- ---- the allocation
-  pub parts : Parts (table 16 plan.instruments (λ j. get_or plan.allocation j 0) 0)
+  pub parts : Parts 16 (table 16 plan.instruments (λ j. get_or plan.allocation j 0) 0)
   parts = parts_table plan.instruments (λ j. get_or plan.allocation j 0) ok.head.instruments_few
       (le_of_eq (sym (Σℕ_from 1 plan.instruments plan.instruments P.p _ (omega arith) (allocation_is plan)) ∙ ok.allocation))
 
@@ -183,16 +163,29 @@ module _ (plan : Plan) (ok : Accepted (numbers plan)) where
   parts_held = fun_ext (entry_cong 0 plan.instruments _ _ (λ j h. table_at 16 plan.instruments (λ j. get_or plan.allocation j 0) 0 0 j h ok.head.instruments_few))
 
   -- ---- all of it
-  pub prepared : {payments : List Flow} {constant : Flow} → rows_of payments ≡ payments_rows P → constant.amounts ≡ constant_array P
-      → Prepared plan.years plan.instruments payments constant plan.cost
-  prepared {payments} {constant} e f =
-      let row : (j : ℕ) → j < plan.instruments → amounts_of (row_of payments j) ≡ (λ k. P.a k (1 + j)) = λ j h. rw e (row_held j h) in
-      let money : amounts_of constant.amounts ≡ (shared_of P).constant_flow = rw f constant_held in
-      record {
-        few = ok.head.instruments_few;
-        costs = λ j h. within_more (omega arith) (subst (Within most) (cost_is plan j h) (omega (whole, ok.cost (1 + j))));
-        flow = λ shares parts k. flow_most plan.instruments payments constant shares ok.head.instruments_few parts k
-            (λ j h. rw (row j h) (payment_within ok k (1 + j))) (rw money (constant_within ok k));
-        past = λ shares parts k l. flow_none plan.instruments payments constant shares k
-            (λ j h. rw (row j h) (payment_past plan k (1 + j) l)) (rw money (constant_past plan k l));
-      }
+  pub prepared : Prepared plan.instruments (payments_rows P) plan.cost
+  prepared = record {
+    few = ok.head.instruments_few;
+    payments = λ j h. rw (row_is j h) (payments_fit j);
+    costs = λ j h. within_more (omega arith) (subst (Within most) (cost_is plan j h) (omega (whole, ok.cost (1 + j))));
+  }
+
+  -- with any parts of at most 1,000,000 together
+  module _ {c : Common} (e : IsOf plan c) (shares : List ℕ) (parts : Parts c.instruments shares) where
+    abbrev n : ℕ
+    n = c.instruments
+
+    row : (j : ℕ) → j < n → amounts_of (get_or c.payments j []) ≡ (λ k. P.a k (1 + j))
+    row j h = rw e.payments (row_held j (omega (arith, h, e.instruments)))
+
+    money : amounts_of c.constant.amounts ≡ (shared_of P).constant_flow
+    money = rw e.constant constant_held
+
+    pub allocated : Allocated c shares
+    unfolding flow_of
+    allocated = record {
+      parts = parts;
+      flow = λ k. flow_most n c.payments (amounts_of c.constant.amounts) shares parts k (λ j h. rw (row j h) (payment_within ok k (1 + j))) (rw money (constant_within ok k));
+      flow_held = flow_held_law c shares (λ k l. flow_none n c.payments (amounts_of c.constant.amounts) shares k
+          (λ j h. rw (row j h) (payment_past plan k (1 + j) (omega (arith, l, e.years)))) (rw money (constant_past plan k (omega (arith, l, e.years)))));
+    }

@@ -1,12 +1,13 @@
 -- The loop of a weighted sum: n amounts x within the limit, each times its part p, where the parts come to at most 1,000,000.
 -- Every sum on the way then fits a machine's word. What is left of the allocation at the horizon is such a sum.
-use mathlib.Core.Path.{◌≡◌, sym, ap, ap₂, ◌∙◌}
+use mathlib.Core.Path.{◌≡◌, refl, sym, ap, ap₂, ◌∙◌}
 use mathlib.Core.List.{List}
 use Prim.Native.Nat.{ℕ, suc, ◌+◌, ◌-◌, ◌*◌, ◌≤◌, ◌<◌}
 use native.Mathlib.Nat.{le_trans}
 use native.Mathlib.Omega.{arith}
-use lib.ListN.{length, get_or, take}
-use Rattle.std.proofs.lemmas.List.{length-take-le, get_or-take}
+use lib.ListN.{length, get_or, get_or-eq_default, take}
+use Rattle.std.specs.Prelude.{Some, None}
+use Rattle.std.proofs.lemmas.List.{length-take, get_or-take}
 use lib.IntN.{ℤ, pos, ◌+ℤ◌, ◌*ℤ◌, zero-*ℤ}
 use mir.Syntax.{w64}
 use mir.Val.{SFits}
@@ -14,16 +15,18 @@ use Rattle.whole.specs.Range.{million, limit, Within}
 use Rattle.whole.specs.Floor.{floor}
 use Rattle.whole.specs.Sum.{sum, sum_ℕ}
 use Rattle.whole.specs.Table.{table}
+use Rattle.whole.proofs.Bridge.{same, #, ◌⊕◌}
 use Rattle.whole.proofs.Range.{within_pos, within_mul, within_fits}
-use Rattle.whole.proofs.Entry.{entry_at, cut_past, table_cut}
+use Rattle.whole.specs.Entry.{entry}
+use Rattle.whole.proofs.Entry.{entry_at, entry_each, cut_past, table_cut}
 use Rattle.whole.proofs.Table.{table_at}
-use Rattle.whole.proofs.Sum.{Σℤ_from, sum_none, sum_zeros, sum_more, sum_cong, sum_within_parts, sum_ℕ_one, sum_ℕ_more, sum_ℕ_past, sum_ℕ_cong}
+use Rattle.whole.proofs.Sum.{Σℤ_from, sum_none, sum_zeros, sum_more, sum_split, sum_cong, sum_within_parts, sum_ℕ_one, sum_ℕ_more, sum_ℕ_past, sum_ℕ_cong}
 use Rattle.reckoning.specs.Reckoning.{left}
 use Rattle.plan.specs.Held.{amounts_in}
 use Rattle.plan.proofs.Held.{held_at}
-use Rattle.patterns.specs.Pattern.{Shared, exact_left_of, left_of}
+use Rattle.patterns.specs.Pattern.{Shared}
 use Rattle.patterns.specs.Prepared.{Parts}
-use Rattle.patterns.specs.Arrays.{shared_in, left_in, Weighable}
+use Rattle.patterns.specs.Arrays.{shared_in, left_with, Weighable}
 use Rattle.patterns.specs.declared.common.Common.{Common}
 
 -- what is left of costs that are 0, of any allocation
@@ -65,27 +68,58 @@ module _ {n : ℕ} {x : List ℤ} {p : List ℕ} (w : Weighable n x p) where
       pub sum_fits : SFits w64 (s +ℤ v *ℤ q)
       sum_fits = rw weigh_turn.is (within_fits (omega arith) (sum_within (j + 1) (omega arith)))
 
--- the first n amounts alone
-module _ {n : ℕ} {x : List ℤ} {p : List ℕ} (w : Weighable n x p) (long : n ≤ length x) where
-  pub taken : Weighable (length (take n x)) (take n x) p
-  taken = rw (length-take-le n x long) (record { few = w.few; amount = λ j h. rw (get_or-take n x j (pos 0) h) (w.amount j h); parts = w.parts })
+-- a sum to m whose terms from n on are 0
+pub sum_upto : (n m : ℕ) (g : ℕ → ℤ) → n ≤ m → ((j : ℕ) → n ≤ j → j < m → g j ≡ pos 0) → sum n g ≡ sum m g
+sum_upto n m g few none =
+    let e : n + (m - n) ≡ m = omega arith in
+    same (# (sum n g)) (# (sum n g) ⊕ # (pos 0)) (omega arith)
+    ∙ ap (λ (z : ℤ). sum n g +ℤ z) (sym (sum_zeros (m - n) (λ k. g (n + k)) (λ k l. none (n + k) (omega arith) (omega arith))))
+    ∙ sym (sum_split n (m - n) g) ∙ ap (λ (k : ℕ). sum k g) e
 
-  pub weighed_taken : weighed_by p (length (take n x)) (take n x) ≡ weighed_by p n x
-  weighed_taken = rw (length-take-le n x long) (sum_cong n _ _ (λ j h. ap (λ (x : ℤ). x *ℤ pos (get_or p j 0)) (get_or-take n x j (pos 0) h)))
+-- the first n amounts alone
+module _ {n : ℕ} {x : List ℤ} {p : List ℕ} (w : Weighable n x p) where
+  abbrev k : ℕ
+  k = length (take n x)
+
+  pub taken : Weighable k (take n x) p
+  taken =
+      let short = length-take n x in
+      record {
+        few = omega (arith, short, w.few);
+        amount = λ j h. rw (get_or-take n x j (pos 0) (omega (arith, h, short))) (w.amount j (omega (arith, h, short)));
+        parts = le_trans (sum_ℕ_more k n (λ j. get_or p j 0) (omega (arith, short))) w.parts;
+      }
+
+  pub weighed_taken : weighed_by p k (take n x) ≡ weighed_by p n x
+  weighed_taken =
+      let short = length-take n x in
+      sum_cong k _ _ (λ j h. ap (λ (x : ℤ). x *ℤ pos (get_or p j 0)) (get_or-take n x j (pos 0) (omega (arith, h, short))))
+      ∙ sum_upto k n _ (omega (arith, short)) (λ j l h. ap (λ (x : ℤ). x *ℤ pos (get_or p j 0)) (get_or-eq_default x (pos 0) (omega (arith, l, h, short))) ∙ zero-*ℤ (pos (get_or p j 0)))
 
 -- sixteen parts of at most 1,000,000 together, and n of them
-pub parts_first : (p : List ℕ) (n : ℕ) → n ≤ 16 → Parts p → sum_ℕ n (λ j. get_or p j 0) ≤ million
+pub parts_first : (p : List ℕ) (n : ℕ) → n ≤ 16 → Parts 16 p → Parts n p
 parts_first p n few parts = le_trans (sum_ℕ_more n 16 (λ j. get_or p j 0) few) parts
 
 -- n parts of at most as many, and zeros past them
-pub parts_table : (n : ℕ) (f : ℕ → ℕ) → n ≤ 16 → sum_ℕ n f ≤ million → Parts (table 16 n f 0)
+pub parts_table : (n : ℕ) (f : ℕ → ℕ) → n ≤ 16 → sum_ℕ n f ≤ million → Parts 16 (table 16 n f 0)
 parts_table n f few parts =
     let all : 16 ≡ n + (16 - n) = omega arith in
     let part : ℕ → ℕ = λ j. get_or (table 16 n f 0) j 0 in
     let past : (j : ℕ) → n ≤ j → part j ≡ 0 = λ j h. table_cut 0 n f 16 few j ∙ cut_past 0 n f j h in
     rw (ap (λ (m : ℕ). sum_ℕ m part) all ∙ sum_ℕ_past n (16 - n) part past ∙ sum_ℕ_cong n part f (λ j h. table_at 16 n f 0 0 j h few)) parts
 
--- ---- what is left of the allocation: the weighted sum of the costs, in whole amounts; nothing where no cost is held
+-- ---- what is left of costs: their weighted sum, in whole amounts
+pub left_is : (costs : List ℤ) (n : ℕ) (shares : List ℕ) → floor (weighed_by shares n costs) million ≡ left_with (Some costs) n shares
+unfolding left
+left_is costs n shares = sym (ap (λ (z : ℤ). floor z million) (Σℤ_from 1 n n (λ j. entry (pos 0) n (λ j. get_or costs j (pos 0)) j *ℤ pos (entry 0 n (λ j. get_or shares j 0) j)) _ (omega arith)
+    (λ j h. ap₂ (λ (x : ℤ) (p : ℕ). x *ℤ pos p) (entry_at (pos 0) n (λ j. get_or costs j (pos 0)) j h) (entry_at 0 n (λ j. get_or shares j 0) j h))))
+
+-- nothing where no cost is held
+pub left_none : (n : ℕ) (shares : List ℕ) → pos 0 ≡ left_with None n shares
+unfolding floor
+left_none n shares = sym (ap (λ (z : ℤ). floor z million) (no_left n (entry 0 n (λ j. get_or shares j 0)) (entry_each (pos 0) 0 _ (λ (z : ℤ). z ≡ pos 0) refl (λ j h. absurd (omega arith)))))
+
+-- ---- of what all patterns share
 module _ (c : Common) (shares : List ℕ) where
   abbrev S : Shared
   S = shared_in c shares
@@ -96,15 +130,5 @@ module _ (c : Common) (shares : List ℕ) where
   pub cost_at : (j : ℕ) → j < c.instruments → S.cost (1 + j) ≡ get_or (amounts_in c.cost) j (pos 0)
   cost_at = held_at c.cost c.instruments
 
-  module _ (costs : List ℤ) (same : (j : ℕ) → j < c.instruments → get_or costs j (pos 0) ≡ get_or (amounts_in c.cost) j (pos 0)) where
-    pub cost_weighable : Parts shares → Weighable c.instruments costs shares
-    cost_weighable parts = record {
-      few = c.prepared.few;
-      amount = λ j h. rw (same j h) (c.prepared.costs j h);
-      parts = parts_first shares c.instruments c.prepared.few parts;
-    }
-
-    pub left_is : floor (weighed_by shares c.instruments costs) million ≡ left_in c shares
-    unfolding left_of exact_left_of left
-    left_is = sym (ap (λ (z : ℤ). floor z million) (Σℤ_from 1 c.instruments c.instruments (λ j. S.cost j *ℤ pos (S.p j)) _ (omega arith)
-        (λ j h. ap₂ (λ (x : ℤ) (p : ℕ). x *ℤ pos p) (cost_at j h ∙ sym (same j h)) (part_at j h))))
+  pub cost_weighable : Parts c.instruments shares → Weighable c.instruments (amounts_in c.cost) shares
+  cost_weighable parts = record { few = c.prepared.few; amount = c.prepared.costs; parts = parts }

@@ -1,10 +1,7 @@
 // An allocation.
 
-ghost use Rattle.patterns.specs.Prepared.{Parts};
-
-// The share of each instrument, in millionths, of which there are at most a million together.
+// The share of each instrument, in millionths; what stands past the last instrument plays no part.
 #[derive(Clone, Copy)]
 pub struct Allocation {
     pub shares: [u32; 16],
-    ghost parts: { Parts shares },
 }

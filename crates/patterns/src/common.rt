@@ -4,14 +4,14 @@ ghost use Rattle.patterns.specs.Prepared.{Prepared};
 
 use reckoning::{Flow, Rollover};
 
-// N and the rollover, the payments of n instruments (no flow past them plays a part), the flow of Q, and the cost that is left of each
-// instrument at the horizon, where it is held.
+// N and the rollover, the payments of n instruments, the flow of Q, and the cost that is left of each instrument at the horizon, where it is
+// held. What stands past the last instrument plays no part.
 #[derive(Clone, Copy)]
 pub struct Common {
     pub rollover: Rollover,
     pub instruments: usize,
-    pub payments: [Flow; 16],
+    pub payments: [[i64; 30]; 16],
     pub constant: Flow,
     pub cost: Option<[i64; 16]>,
-    ghost prepared: { Prepared rollover.horizon.years instruments payments constant cost },
+    ghost prepared: { Prepared instruments payments cost },
 }

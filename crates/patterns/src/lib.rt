@@ -1,22 +1,23 @@
 // A plan in one pattern: what no allocation changes, the allocation's flow, the fund, K and Q, the bound and the form.
 #![tactic(auto)]
 
+// kept, the fact Allocated: a type of a `Common` and an allocation would be made for the one call, and the flow alone goes on
 mod allocation;
 mod common;
 
-ghost use Rattle.std.specs.Prelude.{◌≡◌, List, [], ℕ, ◌+◌, ◌≤◌, ◌<◌, length, get_or, pos, ◌*ℤ◌};
+ghost use Rattle.std.specs.Prelude.{◌≡◌, true, List, [], ℕ, ◌+◌, ◌≤◌, ◌<◌, length, get_or, is_some, pos, ◌*ℤ◌};
 ghost use Rattle.whole.specs.Range.{limit, Between, Within};
 ghost use Rattle.whole.specs.Sum.{sum};
 ghost use Rattle.whole.specs.Table.{table};
 ghost use Rattle.reckoning.specs.Bound.{h as largestOf, B};
 ghost use Rattle.reckoning.specs.Arrays.{shares_of, rates_of, amounts_of, fund_reckoned};
 ghost use Rattle.reckoning.specs.Answers.{fund_shown};
-ghost use Rattle.plan.specs.Held.{flag};
+ghost use Rattle.plan.specs.Held.{flag, amounts_in};
 ghost use Rattle.plan.specs.Numbers.{numbers};
 ghost use Rattle.patterns.specs.Pattern.{shared_of, flow_of, bound_at, flow_reckoned, coefficients_reckoned, form_reckoned};
 ghost use Rattle.patterns.specs.Shown.{coefficients_shown, form_shown};
-ghost use Rattle.patterns.specs.Prepared.{row_of};
-ghost use Rattle.patterns.specs.Arrays.{rollover_array, rates_array, constant_array, payments_rows, IsOf, parts_of, shared_in, left_in, flow_array, shared_with, Weighable};
+ghost use Rattle.patterns.specs.Prepared.{Parts};
+ghost use Rattle.patterns.specs.Arrays.{rollover_array, rates_array, constant_array, payments_rows, IsOf, parts_of, shared_in, left_with, left_in, flow_array, shared_with, Weighable, Allocated};
 
 pub use allocation::Allocation;
 pub use common::Common;
@@ -70,18 +71,17 @@ pub fn new_money(plan: AcceptedPlan<'_>, t: usize) -> NewMoney
     }
 }
 
-// What instrument 1 + j pays in years 1 to N, and zeros past them; zeros alone past the last instrument.
-fn payments_of(plan: AcceptedPlan<'_>, j: usize) -> Flow
-    requires { j < 16 }
-    ensures { result.amounts ≡ get_or (payments_rows (numbers plan.entry.plan.now)) j [] }
+// What instruments 1 to n pay in years 1 to N, and zeros past either.
+fn payments_of(plan: AcceptedPlan<'_>) -> [[i64; 30]; 16]
+    ensures { result ≡ payments_rows (numbers plan.entry.plan.now) }
 {
     let plan = plan.plan;
-    if j >= plan.instruments {
-        return Flow { amounts: [0; 30] };
+    let mut rows = [[0; 30]; 16];
+    // kept: what a closure that answers an array gives cannot be cited in a proof today
+    for j in 0..plan.instruments {
+        rows[j] = plan.instrument[j].payments(plan.years);
     }
-    Flow {
-        amounts: plan.instrument[j].payments(plan.years),
-    }
+    rows
 }
 
 // The flow of Q, which no allocation changes, in year 1 + k: b - o.
@@ -118,6 +118,7 @@ impl Allocation {
     pub fn of(plan: AcceptedPlan<'_>) -> Allocation
         ensures is { result.shares ≡ table 16 plan.entry.plan.now.instruments (λ j. get_or plan.entry.plan.now.allocation j 0) 0 }
         ensures held { parts_of plan.entry.plan.now.instruments result.shares ≡ (numbers plan.entry.plan.now).p }
+        ensures parts { Parts 16 result.shares }
     {
         let plan = plan.plan;
         Allocation {
@@ -142,16 +143,38 @@ impl Allocation {
     }
 }
 
+// What is left of an allocation at the horizon, of n instruments and the cost of each, in whole amounts; 0 where no cost is held.
+pub fn left_of(cost: &Option<[i64; 16]>, n: usize, p: &Allocation) -> i64
+    requires { is_some cost.now ≡ true → Weighable n (amounts_in cost.now) p.now.shares }
+    ensures value { result ≡ left_with cost.now n p.now.shares }
+    ensures within { Within limit result }
+{
+    match cost {
+        Some(costs) => whole::down(p.weighed(&costs[..n])),
+        None => 0,
+    }
+}
+
+// B of a pattern of the rates i: one more where the cost at the horizon is held.
+// kept: whether it is held is all that a bound asks of a cost
+pub fn bound_at(i: &NewMoney, horizon: Horizon, costed: bool) -> i64
+    ensures value { result ≡ pos (B (largestOf (rates_of i.now.rates) horizon.years) horizon.years + flag costed) }
+    ensures between { Between (pos 0) (pos 4_294_967_296) result }
+{
+    i.bound(horizon) + i64::from(costed)
+}
+
 impl Common {
-    // That of a plan.
+    // That of a plan; it takes every allocation of at most a million parts together.
     pub fn of(plan: AcceptedPlan<'_>) -> Common
         ensures is { IsOf plan.entry.plan.now result }
         ensures shared { (shares : List ℕ) → shared_in result shares ≡ shared_with (numbers plan.entry.plan.now) (parts_of plan.entry.plan.now.instruments shares) }
+        ensures allocated { (shares : List ℕ) → Parts result.instruments shares → Allocated result shares }
     {
         Common {
             rollover: rollover_of(plan),
             instruments: plan.plan.instruments,
-            payments: std::array::from_fn(|j| payments_of(plan, j)),
+            payments: payments_of(plan),
             constant: constant_of(plan),
             cost: plan.plan.cost,
         }
@@ -161,16 +184,17 @@ impl Common {
     fn payment(&self, j: usize, k: usize) -> i64
         requires j_few { j < 16 }
         requires k_few { k < 30 }
-        ensures { result ≡ get_or (row_of self.now.payments j) k (pos 0) }
+        ensures { result ≡ get_or (get_or self.now.payments j []) k (pos 0) }
     {
-        self.payments[j].amounts[k]
+        self.payments[j][k]
     }
 
     // ---- an allocation
 
     // The allocation's flow in year 1 + k: what it pays, in whole amounts, and the flow of Q.
     fn flow_in(&self, p: &Allocation, k: usize) -> i64
-        requires { k < self.now.rollover.horizon.years }
+        requires k_few { k < self.now.rollover.horizon.years }
+        requires allocated { Allocated self.now p.now.shares }
         ensures { result ≡ flow_of (shared_in self.now p.now.shares) (1 + k) }
     {
         let column: [i64; 16] = std::array::from_fn(|j| self.payment(j, k));
@@ -179,6 +203,7 @@ impl Common {
 
     // The same in years 1 to N, and zeros past them.
     pub fn flow(&self, p: &Allocation) -> Flow
+        requires { Allocated self.now p.now.shares }
         ensures is { result.amounts ≡ flow_array (shared_in self.now p.now.shares) }
         ensures held { amounts_of result.amounts ≡ flow_of (shared_in self.now p.now.shares) }
     {
@@ -190,11 +215,11 @@ impl Common {
 
     // What is left of the allocation at the horizon, in whole amounts; 0 where no cost is held.
     pub fn left(&self, p: &Allocation) -> i64
+        requires { Parts self.now.instruments p.now.shares }
         ensures value { result ≡ left_in self.now p.now.shares }
         ensures within { Within limit result }
     {
-        let costs: [i64; 16] = std::array::from_fn(|j| plan::amount_at(&self.cost, j));
-        whole::down(p.weighed(&costs[..self.instruments]))
+        left_of(&self.cost, self.instruments, p)
     }
 
     // ---- one pattern, at the rates i
@@ -224,14 +249,16 @@ impl Common {
         ensures { (shares : List ℕ) → coefficients_shown result ≡ coefficients_reckoned (shared_in self.now shares) (rates_of i.now.rates) }
     {
         let mut k = [0; 16];
-        for (j, payments) in self.payments[..self.instruments].iter().enumerate() {
-            k[j] = self.fund(payments, plan::amount_at(&self.cost, j), i)?;
+        for (j, row) in self.payments[..self.instruments].iter().enumerate() {
+            let payments = Flow { amounts: *row };
+            k[j] = self.fund(&payments, plan::amount_at(&self.cost, j), i)?;
         }
         Ok(k)
     }
 
     // The fund of the allocation, with what is left of it; refused where check 11 does not take it or a cell.
     pub fn allocation_fund(&self, p: &Allocation, i: &NewMoney) -> Result<i64, Refusal>
+        requires { Allocated self.now p.now.shares }
         ensures { fund_shown result ≡ flow_reckoned (shared_in self.now p.now.shares) (rates_of i.now.rates) }
     {
         self.fund(&self.flow(p), self.left(p), i)
@@ -242,11 +269,12 @@ impl Common {
         ensures value { (shares : List ℕ) → result ≡ pos (bound_at (shared_in self.now shares) (rates_of i.now.rates)) }
         ensures between { Between (pos 0) (pos 4_294_967_296) result }
     {
-        i.bound(self.rollover.horizon) + i64::from(self.cost.is_some())
+        bound_at(i, self.rollover.horizon, self.cost.is_some())
     }
 
     // K_1 to K_n, Q and the value at the allocation; refused where check 11 does not take an instrument or Q.
     pub fn form(&self, p: &Allocation, i: &NewMoney) -> Result<Form, Refusal>
+        requires { Parts self.now.instruments p.now.shares }
         ensures { form_shown result ≡ form_reckoned (shared_in self.now p.now.shares) (rates_of i.now.rates) }
     {
         let coefficients = self.coefficients(i)?;

@@ -79,7 +79,9 @@ pub fn bound(plan: &Plan, t: usize) -> Result<i64, Refusal>
     ensures { bound_shown result ≡ bound_answer (numbers plan.now) t }
 {
     let call = Call::on(plan, t)?;
-    Ok(Common::of(call.plan).bound(&call.i))
+    let horizon = patterns::horizon_of(call.plan);
+    let costed = call.plan.plan.cost.is_some();
+    Ok(patterns::bound_at(&call.i, horizon, costed))
 }
 
 // The linear form of pattern t: K_1 to K_n, Q, and its value at the plan's allocation; refused by checks 3, 6 to 11 or 13.

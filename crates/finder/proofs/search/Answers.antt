@@ -2,7 +2,8 @@
 use mathlib.Core.Path.{◌≡◌}
 use mathlib.Core.Bool.{Bool}
 use mathlib.Core.List.{List}
-use Prim.Native.Nat.{ℕ, ◌-◌, ◌/◌}
+use Prim.Native.Nat.{ℕ, ◌-◌, ◌/◌, ◌≤◌}
+use native.Mathlib.Nat.{le_of_eq}
 use native.Mathlib.Omega.{arith}
 use lib.IntN.{pos}
 use lib.ListN.{get_or, replicate, get_or-replicate}
@@ -17,6 +18,7 @@ use Rattle.finder.specs.Lines.{wide_of}
 use Rattle.finder.specs.Placing.{placements}
 use Rattle.finder.specs.Search.{passes, split_shown}
 use Rattle.finder.proofs.Parts.{parts_have}
+use Rattle.finder.proofs.Order.{wide_whole}
 use Rattle.finder.proofs.Deciding.{passes_is}
 use Rattle.finder.proofs.Answer.{search_start, search_none, search_found}
 use Rattle.finder.proofs.search.Goals as goal
@@ -24,6 +26,11 @@ use Rattle.finder.proofs.search.Goals.{After-put_lines}
 
 pub invariant_of-rates : goal.invariant_of-rates
 invariant_of-rates c = record { within = record { rate = λ k l. rw (get_or-replicate 30 k (pos 0) (pos 0) l) (within_pos (omega arith)) } }
+
+pub invariant_of-search : goal.invariant_of-search
+invariant_of-search c =
+    let few : c.of-common.result.instruments ≤ 4 = rw c.of-common.ensures.is.instruments c.requires.instruments_bound in
+    record { instruments_few = few; looks = λ shares whole. c.of-common.ensures.allocated (wide_of shares) (le_of_eq (wide_whole c.of-common.result.instruments shares few whole)) }
 
 pub nonzero_div-search : goal.nonzero_div-search
 nonzero_div-search c = (parts_have _ c.requires.parts_value).some

@@ -1,22 +1,15 @@
--- `patterns::payments_of` takes what the instrument pays (Held).
-use mathlib.Core.Path.{◌≡◌, sym, ◌∙◌}
-use Rattle.plan.specs.Numbers.{numbers}
-use Rattle.patterns.specs.Arrays.{payments_row}
-use Rattle.patterns.proofs.Held.{payments_row_law, no_amounts, row_is, row_past, payments_fit}
+-- `patterns::payments_of` fills in what each instrument pays.
+use Rattle.whole.proofs.Filling.{fill_start, fill_turn, fill_as}
+use Rattle.patterns.specs.Arrays.{payments_rows}
+use Rattle.patterns.proofs.Held.{payments_row_law}
 use Rattle.patterns.proofs.payments_of.Goals as goal
-use Rattle.patterns.proofs.payments_of.Goals.{After-payments}
 
-pub invariant_of-result : goal.invariant_of-result
-invariant_of-result c = record { within = no_amounts }
+pub loop-j-init : goal.loop-j-init
+loop-j-init c = fill_start
 
-pub returns-then-j-plan : goal.returns-then-j-plan
-returns-then-j-plan c = sym (row_past c.args.plan.plan.now c.args.plan.accepted c.args.j c.if-j-plan.true c.requires)
-
-row : (c : After-payments) → c.payments.result ≡ payments_row (numbers c.args.plan.plan.now) c.args.j
-row c = c.payments.ensures ∙ payments_row_law c.args.plan.plan.now c.args.j c.if-j-plan.false
-
-pub invariant_of-result-2 : goal.invariant_of-result-2
-invariant_of-result-2 c = record { within = rw (row c) (payments_fit c.args.plan.plan.now c.args.plan.accepted c.args.j) }
+pub loop-j-preserved : goal.loop-j-preserved
+loop-j-preserved c = fill_turn c.args.plan.accepted.head.instruments_few c.loop-j-test.true c.loop-j.invariant c.payments.ensures
 
 pub returns : goal.returns
-returns c = row c.before ∙ sym (row_is c.args.plan.plan.now c.args.plan.accepted c.args.j c.if-j-plan.false)
+unfolding payments_rows
+returns c = fill_as c.loop-j-test.false c.loop-j.invariant (payments_row_law c.args.plan.plan.now)

@@ -1,6 +1,5 @@
 -- `planner::bound` is B of the pattern's rates, and of whether the cost is held.
 use mathlib.Core.Path.{refl, ap, ◌∙◌}
-use mathlib.Core.List.{[]}
 use Prim.Native.Nat.{ℕ}
 use lib.IntN.{ℤ, pos}
 use Rattle.whole.proofs.Range.{back, ok64}
@@ -17,5 +16,5 @@ pub returns : goal.returns
 unfolding bound_answer
 returns c =
     let called = c.in_ok-call.ensures in
-    let b = c.bound.ensures.value [] ∙ ap (λ (b : ℕ). pos b) (bound_law called.plan_value c.of.result c.of.ensures.shared _ called.rates) in
-    simp (back, ok64 c.bound.result c.bound.type_inv) (out_accepted no_bound called.is (ap (λ (b : ℤ). record { refusal = 0; bound = b }) b))
+    let b = c.bound_at.ensures.value ∙ ap (λ (b : ℕ). pos b) (bound_law called.plan_value c.args.t called.rates c.horizon_of-horizon.ensures c.is_some-costed.ensures) in
+    simp (back, ok64 c.bound_at.result c.bound_at.type_inv) (out_accepted no_bound called.is (ap (λ (b : ℤ). record { refusal = 0; bound = b }) b))

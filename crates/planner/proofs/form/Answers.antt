@@ -4,7 +4,7 @@ use Rattle.plan.specs.Numbers.{numbers}
 use Rattle.patterns.specs.Pattern.{no_form, form_reckoned}
 use Rattle.patterns.specs.Shown.{form_shown}
 use Rattle.planner.specs.Calls.{form_answer}
-use Rattle.planner.proofs.Answers.{out_passed, out_accepted, shared_is}
+use Rattle.planner.proofs.Answers.{out_passed, out_accepted, shared_is, allocation_taken}
 use Rattle.planner.proofs.Demand3.{form_answered}
 use Rattle.planner.proofs.form.Goals as goal
 use Rattle.planner.proofs.form.Goals.{After-form, After-from_residual}
@@ -12,6 +12,9 @@ use Rattle.planner.proofs.form.Goals.{After-form, After-from_residual}
 refused : (c : After-from_residual) → form_shown c.from_residual.result ≡ form_answer (numbers c.args.plan.now) c.args.t
 unfolding form_answer
 refused c = out_passed no_form form_shown (λ e. refl) _ c.from_residual.result c.from_residual.ensures.1 c.in_err-plan.ensures.is _
+
+pub form-requires : goal.form-requires
+form-requires c = (allocation_taken c.of.result c.of.ensures.allocated c.of-2.ensures.parts).parts
 
 pub returns-in_err-plan : goal.returns-in_err-plan
 returns-in_err-plan c = let a = form_answered _ _ (refused c) in record { is = a.0; near = a.1 }

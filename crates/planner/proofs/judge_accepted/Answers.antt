@@ -10,11 +10,17 @@ use Rattle.whole.proofs.Range.{back, ok64}
 use Rattle.whole.proofs.Answer.{passed_on}
 use Rattle.plan.specs.Numbers.{numbers}
 use Rattle.planner.specs.Rows.{row_reckoned}
-use Rattle.planner.proofs.Answers.{shared_is}
+use Rattle.planner.proofs.Answers.{shared_is, allocation_taken}
 use Rattle.planner.proofs.RowLaws.{rows_start, rows_turn, rows_refuse, rows_fit, rows_are, words_are, words_there}
 use Rattle.planner.proofs.VerdictLaws.{pattern_refuses, judged_refused, judge_made}
 use Rattle.planner.proofs.Words.{words_made}
 use Rattle.planner.proofs.judge_accepted.Goals as goal
+
+pub flow-flow-requires : goal.flow-flow-requires
+flow-flow-requires c = allocation_taken c.of-common.result c.of-common.ensures.allocated c.of-allocation.ensures.parts
+
+pub left-left-requires : goal.left-left-requires
+left-left-requires c = (allocation_taken c.of-common.result c.of-common.ensures.allocated c.of-allocation.ensures.parts).parts
 
 pub loop-t-init : goal.loop-t-init
 loop-t-init c = rows_start _ _

@@ -8,12 +8,15 @@ use Rattle.whole.specs.Test.{pick}
 use Rattle.finder.specs.Find.{not_found}
 use Rattle.finder.proofs.First.{hit}
 use Rattle.finder.proofs.LineLaws.{passes_not, passes_looked}
-use Rattle.finder.proofs.Placing.{set_few, next_placing, last_tells, try_start, try_found, try_turn, try_end}
+use Rattle.finder.proofs.Placing.{set_few, last_whole, next_placing, last_tells, try_start, try_found, try_turn, try_end}
 use Rattle.finder.proofs.searching.Search.+from.Goals as goal
 use Rattle.finder.proofs.searching.Search.+from.Goals.{else-below_none-via-then-below_none+else-look, else-below_none-via-else-below_none}
 
 pub with-last-requires-clause-few : goal.with-last-requires-clause-few
 with-last-requires-clause-few t c = set_few c.requires c.args.self.now.instruments_few _ (omega arith)
+
+pub look-requires : goal.look-requires
+look-requires t c = last_whole c.requires c.args.self.now.instruments_few c.if-others-eq0.true c.with-last.ensures
 
 pub returns-then-look : goal.returns-then-look
 returns-then-look t c =

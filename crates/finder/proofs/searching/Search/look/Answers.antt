@@ -10,11 +10,13 @@ use Rattle.patterns.specs.Arrays.{shared_in}
 use Rattle.finder.specs.Lines.{fund_passes, wide_of}
 use Rattle.finder.specs.Search.{looked}
 use Rattle.finder.proofs.ListLaws.{list_all_of}
-use Rattle.finder.proofs.Order.{wide_few}
 use Rattle.finder.proofs.searching.Search.look.Goals as goal
 
-pub invariant_of-allocation : goal.invariant_of-allocation
-invariant_of-allocation c = record { parts = wide_few c.args.split.shares c.args.split.few c.widened.ensures }
+pub flow-requires : goal.flow-requires
+flow-requires c = rw c.widened.ensures (c.args.self.now.looks c.args.split.shares c.requires)
+
+pub left-requires : goal.left-requires
+left-requires c = rw c.widened.ensures (c.args.self.now.looks c.args.split.shares c.requires).parts
 
 pub returns : goal.returns
 unfolding looked

@@ -14,11 +14,11 @@ made : (c : After-from_fn) → c.from_fn.result ≡ table 16 c.args.plan.plan.no
 made c = made_table c.from_fn.ensures.items c.args.plan.plan.now.instruments (λ j. get_or c.args.plan.plan.now.allocation j 0) 0 c.args.plan.accepted.head.instruments_few
     (λ j y q l called. search (rules, tests)) (λ j y q b l called. search (rules, tests))
 
-pub invariant_of-result : goal.invariant_of-result
-invariant_of-result c = record { parts = rw (made c) (parts c.args.plan.plan.now c.args.plan.accepted) }
-
 pub returns-clause-is : goal.returns-clause-is
-returns-clause-is c = made c.before
+returns-clause-is c = made c
 
 pub returns-clause-held : goal.returns-clause-held
-returns-clause-held c = ap (parts_of c.args.plan.plan.now.instruments) (made c.before) ∙ parts_held c.args.plan.plan.now c.args.plan.accepted
+returns-clause-held c = ap (parts_of c.args.plan.plan.now.instruments) (made c) ∙ parts_held c.args.plan.plan.now c.args.plan.accepted
+
+pub returns-clause-parts : goal.returns-clause-parts
+returns-clause-parts c = rw (made c) (parts c.args.plan.plan.now c.args.plan.accepted)

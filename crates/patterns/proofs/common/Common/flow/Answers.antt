@@ -8,7 +8,7 @@ use Rattle.whole.proofs.Made.{made_table}
 use Rattle.reckoning.specs.Arrays.{amounts_of}
 use Rattle.patterns.specs.Pattern.{flow_of}
 use Rattle.patterns.specs.Arrays.{shared_in, flow_array}
-use Rattle.patterns.proofs.Flows.{flow_held, flow_fit}
+use Rattle.patterns.proofs.Flows.{flow_fit}
 use Rattle.patterns.proofs.common.Common.flow.Goals as goal
 use Rattle.patterns.proofs.common.Common.flow.Goals.{After-from_fn}
 
@@ -18,10 +18,10 @@ made c = made_table c.from_fn.ensures.items c.args.self.now.rollover.horizon.yea
     (λ k y q l called. search (rules, tests)) (λ k y q b l called. search (rules, tests))
 
 pub invariant_of-result : goal.invariant_of-result
-invariant_of-result c = record { within = rw (made c) (flow_fit c.args.self.now c.args.p.now.shares c.args.p.now.parts) }
+invariant_of-result c = record { within = rw (made c) (flow_fit c.args.self.now c.args.p.now.shares c.requires) }
 
 pub returns-clause-is : goal.returns-clause-is
 returns-clause-is c = made c.before
 
 pub returns-clause-held : goal.returns-clause-held
-returns-clause-held c = ap amounts_of (made c.before) ∙ flow_held c.args.self.now c.args.p.now.shares c.args.p.now.parts
+returns-clause-held c = ap amounts_of (made c.before) ∙ c.requires.flow_held

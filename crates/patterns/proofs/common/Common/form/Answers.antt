@@ -1,8 +1,6 @@
 -- `Common::form`: the coefficients, the constant, and the value that they make at the allocation (FormLaws).
 use mathlib.Core.Path.{◌≡◌, refl, ◌∙◌}
-use Prim.Native.Nat.{◌≤◌}
 use native.Mathlib.Omega.{arith}
-use lib.ListN.{length}
 use lib.IntN.{◌+ℤ◌}
 use mir.Syntax.{w64}
 use mir.Val.{SFits}
@@ -15,7 +13,7 @@ use Rattle.plan.proofs.Number.{number_some}
 use Rattle.patterns.specs.Pattern.{value_at}
 use Rattle.patterns.specs.Arrays.{shared_in, Weighable}
 use Rattle.patterns.proofs.Weighing.{weighted_within, taken, weighed_taken}
-use Rattle.patterns.proofs.FormLaws.{form_unmade, form_unbalanced, form_made, constant_is, coefficients_long, weighable, value_is, value_fits}
+use Rattle.patterns.proofs.FormLaws.{form_unmade, form_unbalanced, form_made, constant_is, weighable, value_is, value_fits}
 use Rattle.patterns.proofs.common.Common.form.Goals as goal
 use Rattle.patterns.proofs.common.Common.form.Goals.{In_ok-constant, After-down}
 
@@ -32,19 +30,16 @@ returns-in_err-constant c =
 -- the coefficients and the constant
 module _ (c : In_ok-constant) where
   weighed : Weighable c.args.self.now.instruments c.in_ok-coefficients.coefficients c.args.p.now.shares
-  weighed = weighable c.args.self.now c.args.p.now.shares _ (c.in_ok-coefficients.ensures c.args.p.now.shares) refl c.args.p.now.parts
-
-  long : c.args.self.now.instruments ≤ length c.in_ok-coefficients.coefficients
-  long = omega (arith, coefficients_long c.args.self.now c.args.p.now.shares _ (c.in_ok-coefficients.ensures c.args.p.now.shares) refl, c.args.self.now.prepared.few)
+  weighed = weighable c.args.self.now c.args.p.now.shares _ (c.in_ok-coefficients.ensures c.args.p.now.shares) refl c.requires
 
   constant_fits : SFits w64 c.in_ok-constant.constant
   constant_fits = within_fits {b = limit} (omega arith) c.in_ok-constant.ensures.within
 
 pub weighed-requires : goal.weighed-requires
-weighed-requires c = taken (weighed c.before) (long c.before)
+weighed-requires c = taken (weighed c.before)
 
 pub down-requires : goal.down-requires
-down-requires c = let o = c.before.before in simp (back, ok64 c.weighed.result c.weighed.type_inv) (weighted_within (taken (weighed o) (long o)) c.weighed.ensures)
+down-requires c = let o = c.before.before in simp (back, ok64 c.weighed.result c.weighed.type_inv) (weighted_within (taken (weighed o)) c.weighed.ensures)
 
 -- the value
 module _ (c : After-down) where
@@ -58,10 +53,10 @@ module _ (c : After-down) where
   down_is = simp (back, ok64 c.weighed.result c.weighed.type_inv) at c.down.ensures
 
   sum_fits : SFits w64 (c.down.result +ℤ c.in_ok-constant.constant)
-  sum_fits = value_fits down_is (weighted_within (taken (weighed o) (long o)) c.weighed.ensures) c.in_ok-constant.ensures.within
+  sum_fits = value_fits down_is (weighted_within (taken (weighed o)) c.weighed.ensures) c.in_ok-constant.ensures.within
 
   sum_is : c.down.result +ℤ c.in_ok-constant.constant ≡ value_at (shared_in c.args.self.now c.args.p.now.shares) (rates_of c.args.i.now.rates)
-  sum_is = value_is c.args.self.now c.args.p.now.shares _ (c.in_ok-coefficients.ensures c.args.p.now.shares) refl down_is (c.weighed.ensures ∙ weighed_taken (weighed o) (long o))
+  sum_is = value_is c.args.self.now c.args.p.now.shares _ (c.in_ok-coefficients.ensures c.args.p.now.shares) refl down_is (c.weighed.ensures ∙ weighed_taken (weighed o))
       (constant_is _ _ c.in_ok-constant.ensures.value refl)
 
 pub overflow_add-value : goal.overflow_add-value
