@@ -22,7 +22,7 @@ use Rattle.patterns.specs.Pattern.{Shared, flow_of}
 use Rattle.patterns.specs.Prepared.{Parts}
 use Rattle.patterns.specs.Arrays.{shared_in, flow_array, Weighable, Allocated}
 use Rattle.patterns.specs.declared.common.Common.{Common}
-use Rattle.patterns.proofs.Weighing.{weighed_by, part_at}
+use Rattle.patterns.proofs.Weighing.{weighed_by, column, column_at, part_at}
 
 -- ---- what is prepared of a plan: payments of which each is within the most that one may be, and a flow of Q within twice as much
 module _ (n : ℕ) (payments : List (List ℤ)) (constant : ℕ → ℤ) (shares : List ℕ) where
@@ -71,19 +71,12 @@ module _ (c : Common) (shares : List ℕ) where
     }
 
     -- ---- the flow in year 1 + k: the weighted sum of a column of the payments, in whole amounts, and the flow of Q
-    module _ (k : ℕ) (few : k < 30) (column : List ℤ) (is : (j : ℕ) → j < c.instruments → get_or column j (pos 0) ≡ get_or (get_or c.payments j []) k (pos 0)) where
-      pub column_weighable : Weighable c.instruments column shares
-      column_weighable = record {
-        few = c.prepared.few;
-        amount = λ j h. rw (is j h) ((c.prepared.payments j h).amount k few);
-        parts = a.parts;
-      }
-
-      column_paid : weighed_by shares c.instruments column ≡ paid c.instruments S.a S.p (1 + k)
+    module _ (k : ℕ) where
+      column_paid : weighed_by shares c.instruments (column c.payments k) ≡ paid c.instruments S.a S.p (1 + k)
       unfolding paid
       column_paid = sym (Σℤ_from 1 c.instruments c.instruments (λ j. S.a (1 + k) j *ℤ pos (S.p j)) _ (omega arith) (λ j h.
-          ap₂ (λ (x : ℤ) (p : ℕ). x *ℤ pos p) (row_flow j h (1 + k) ∙ amount_at (get_or c.payments j []) k ∙ sym (is j h)) (part_at c shares j h)))
+          ap₂ (λ (x : ℤ) (p : ℕ). x *ℤ pos p) (row_flow j h (1 + k) ∙ amount_at (get_or c.payments j []) k ∙ sym (column_at c.payments k j)) (part_at c shares j h)))
 
-      pub flow_is : floor (weighed_by shares c.instruments column) million +ℤ get_or c.constant.amounts k (pos 0) ≡ flow_of S (1 + k)
+      pub flow_is : floor (weighed_by shares c.instruments (column c.payments k)) million +ℤ get_or c.constant.amounts k (pos 0) ≡ flow_of S (1 + k)
       unfolding flow_of flow
       flow_is = ap₂ (λ (s x : ℤ). floor s million +ℤ x) column_paid (sym (amount_at c.constant.amounts k))

@@ -1,12 +1,12 @@
 -- The loop of a weighted sum: n amounts x within the limit, each times its part p, where the parts come to at most 1,000,000.
 -- Every sum on the way then fits a machine's word. What is left of the allocation at the horizon is such a sum.
 use mathlib.Core.Path.{◌≡◌, refl, sym, ap, ap₂, ◌∙◌}
-use mathlib.Core.List.{List}
-use Prim.Native.Nat.{ℕ, suc, ◌+◌, ◌-◌, ◌*◌, ◌≤◌, ◌<◌}
+use mathlib.Core.List.{List, [], ◌∷◌}
+use Prim.Native.Nat.{ℕ, zero, suc, ◌+◌, ◌-◌, ◌*◌, ◌≤◌, ◌<◌}
 use native.Mathlib.Nat.{le_trans}
 use native.Mathlib.Omega.{arith}
 use lib.ListN.{length, get_or, get_or-eq_default, take}
-use Rattle.std.specs.Prelude.{Some, None}
+use Rattle.std.specs.Prelude.{Some, None, map}
 use Rattle.std.proofs.lemmas.List.{length-take, get_or-take}
 use lib.IntN.{ℤ, pos, ◌+ℤ◌, ◌*ℤ◌, zero-*ℤ}
 use mir.Syntax.{w64}
@@ -37,6 +37,18 @@ no_left n {cost} p none = sum_zeros (suc n - 1) _ (λ j l. ap (λ (z : ℤ). z *
 -- what n amounts weigh, each by its part
 abbrev pub weighed_by : (p : List ℕ) (n : ℕ) (x : List ℤ) → ℤ
 weighed_by p n x = sum n (λ j. get_or x j (pos 0) *ℤ pos (get_or p j 0))
+
+-- what stands in column k of some rows
+abbrev pub column : (rows : List (List ℤ)) (k : ℕ) → List ℤ
+column rows k = map (λ (row : List ℤ). get_or row k (pos 0)) rows
+
+pub column_at : (rows : List (List ℤ)) (k j : ℕ) → get_or (column rows k) j (pos 0) ≡ get_or (get_or rows j []) k (pos 0)
+column_at [] k j = refl
+column_at (x ∷ xs) k zero = refl
+column_at (x ∷ xs) k (suc j) = column_at xs k j
+
+pub column_weighs : (rows : List (List ℤ)) (k n : ℕ) (p : List ℕ) → sum n (λ j. get_or (get_or rows j []) k (pos 0) *ℤ pos (get_or p j 0)) ≡ weighed_by p n (column rows k)
+column_weighs rows k n p = sum_cong n _ _ (λ j l. ap (λ (z : ℤ). z *ℤ pos (get_or p j 0)) (sym (column_at rows k j)))
 
 -- s is the sum of the first j
 pub record Weighing (n : ℕ) (x : List ℤ) (p : List ℕ) (s : ℤ) (j : ℕ) : Type 0 where
@@ -132,3 +144,11 @@ module _ (c : Common) (shares : List ℕ) where
 
   pub cost_weighable : Parts c.instruments shares → Weighable c.instruments (amounts_in c.cost) shares
   cost_weighable parts = record { few = c.prepared.few; amount = c.prepared.costs; parts = parts }
+
+  -- the payments of year 1 + k
+  pub column_weighable : Parts c.instruments shares → (k : ℕ) → k < 30 → Weighable c.instruments (column c.payments k) shares
+  column_weighable parts k few = record {
+    few = c.prepared.few;
+    amount = λ j h. rw (column_at c.payments k j) ((c.prepared.payments j h).amount k few);
+    parts = parts;
+  }

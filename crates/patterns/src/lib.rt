@@ -180,16 +180,20 @@ impl Common {
         }
     }
 
-    // What instrument 1 + j pays in year 1 + k.
-    fn payment(&self, j: usize, k: usize) -> i64
-        requires j_few { j < 16 }
-        requires k_few { k < 30 }
-        ensures { result ≡ get_or (get_or self.now.payments j []) k (pos 0) }
-    {
-        self.payments[j][k]
-    }
-
     // ---- an allocation
+
+    // What the instruments pay in year 1 + k, each times its part.
+    fn paid(&self, p: &Allocation, k: usize) -> i64
+        requires k_few { k < 30 }
+        requires parts { Parts self.now.instruments p.now.shares }
+        ensures { result ≡ sum self.now.instruments (λ j. get_or (get_or self.now.payments j []) k (pos 0) *ℤ pos (get_or p.now.shares j 0)) }
+    {
+        let mut sum = 0;
+        for (row, part) in self.payments[..self.instruments].iter().zip(&p.shares) {
+            sum += row[k] * i64::from(*part);
+        }
+        sum
+    }
 
     // The allocation's flow in year 1 + k: what it pays, in whole amounts, and the flow of Q.
     fn flow_in(&self, p: &Allocation, k: usize) -> i64
@@ -197,8 +201,7 @@ impl Common {
         requires allocated { Allocated self.now p.now.shares }
         ensures { result ≡ flow_of (shared_in self.now p.now.shares) (1 + k) }
     {
-        let column: [i64; 16] = std::array::from_fn(|j| self.payment(j, k));
-        whole::down(p.weighed(&column[..self.instruments])) + self.constant.amounts[k]
+        whole::down(self.paid(p, k)) + self.constant.amounts[k]
     }
 
     // The same in years 1 to N, and zeros past them.
