@@ -77,14 +77,6 @@ module _ {n : ℕ} {shares : List ℕ} {at others parts unit : ℕ} (h : Placing
       ∙ sum_set shares at v (omega (arith, h.places, h.array)) in
       omega (arith, e, h.whole)
 
-  -- where it takes all of them, it is the last, and the shares of all n come to 1,000,000
-  pub last_whole : n ≤ 4 → others ≡ 0 → {last : List ℕ} → last ≡ set shares at (parts * unit) → sum_ℕ n (λ j. get_or last j 0) ≡ million
-  last_whole few none {last} e =
-      let p : n ≡ at + 1 = omega (arith, h.places) in
-      ap (λ (m : ℕ). sum_ℕ m (λ j. get_or last j 0)) p
-      ∙ ap (λ (l : List ℕ). sum_ℕ (at + 1) (λ j. get_or l j 0)) e
-      ∙ sum_set shares at (parts * unit) (omega (arith, h.places, h.array)) ∙ h.whole
-
   -- and with s of them on this one the others can be placed
   pub next_placing : n ≤ 4 → (others ≡ 0 → ⊥) → (s : ℕ) → s ≤ parts → {next : List ℕ} → next ≡ set shares at (s * unit) → Placing n next (at + 1) (others - 1) (parts - s) unit
   next_placing few some s l {next} e =
