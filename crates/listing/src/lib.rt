@@ -5,6 +5,7 @@ ghost use Rattle.std.specs.Prelude.{◌≡◌, [], ◌∷◌, ◌+◌, ◌*◌, 
 ghost use Rattle.std.specs.Int.Count.{ones};
 ghost use Rattle.io.specs.Counts.{IsPrefixLen};
 ghost use Rattle.refusal.specs.Number.{number_of};
+ghost use Rattle.little_endian.specs.Wrote.{Wrote};
 ghost use Rattle.planner.specs.Shown.{word_number, row_made, row_shown};
 ghost use Rattle.planfile.specs.Read.{read_answer};
 ghost use Rattle.listing.specs.Shown.{accepted_shown};
@@ -24,6 +25,39 @@ use refusal::Refusal;
 struct Text<'a> {
     buffer: &'a mut [u8],
     at: usize,
+}
+
+// Puts a number of at most `most` digits into a buffer from a place on, and answers the place after them. (It goes by value: kept in a text, each
+// digit's place would have to wait for that of the one before.)
+fn put_digits(buffer: &mut [u8], at: usize, n: u64, most: usize) -> usize
+    requires { at + most ≤ length buffer.old }
+    ensures wrote { Wrote buffer.old buffer.new at (digits_in most n) result }
+    ensures few { result ≤ at + most }
+{
+    if most == 0 {
+        return at;
+    }
+    let mut end = at;
+    if 10 <= n {
+        end = put_digits(buffer, at, n / 10, most - 1);
+    }
+    // kept: a cast, as no From makes a u8 of a u64, and a TryFrom would ask what to do where there is none
+    buffer[end] = 48 + (n % 10) as u8;
+    end + 1
+}
+
+// The same of a whole number.
+fn put_signed(buffer: &mut [u8], at: usize, z: i64) -> usize
+    requires { at + 21 ≤ length buffer.old }
+    ensures wrote { Wrote buffer.old buffer.new at (signed_text z) result }
+    ensures few { result ≤ at + 21 }
+{
+    let mut place = at;
+    if z < 0 {
+        buffer[at] = 45;
+        place += 1;
+    }
+    put_digits(buffer, place, z.unsigned_abs(), 20)
 }
 
 // kept, a conversion: std's `write!` answers a Result that no clause says is Ok, and a listing cannot fail; so numbers and words are put down by hand
@@ -52,14 +86,7 @@ impl Text<'_> {
         requires { Free self.old most }
         ensures { Put self.old self.new (digits_in most n) most }
     {
-        if most == 0 {
-            return;
-        }
-        if 10 <= n {
-            self.digits(n / 10, most - 1);
-        }
-        // kept: a cast, as no From makes a u8 of a u64, and a TryFrom would ask what to do where there is none
-        self.byte(48 + (n % 10) as u8);
+        self.at = put_digits(self.buffer, self.at, n, most);
     }
 
     // A whole number.
@@ -67,10 +94,7 @@ impl Text<'_> {
         requires { Free self.old 21 }
         ensures { Put self.old self.new (signed_text z) 21 }
     {
-        if z < 0 {
-            self.byte(45);
-        }
-        self.digits(z.unsigned_abs(), 20);
+        self.at = put_signed(self.buffer, self.at, z);
     }
 
     // A space, and a whole number.
@@ -78,8 +102,9 @@ impl Text<'_> {
         requires { Free self.old 22 }
         ensures { Put self.old self.new (field z) 22 }
     {
-        self.byte(32);
-        self.signed(z);
+        let at = self.at;
+        self.buffer[at] = 32;
+        self.at = put_signed(self.buffer, at + 1, z);
     }
 
     fn fields(&mut self, amounts: &[i64])

@@ -1,0 +1,5 @@
+-- `listing::put_digits` puts down a tenth's digits first, and `most` falls.
+use Rattle.listing.proofs.+put_digits.Given as goal
+
+abbrev pub decreases-put_digits : goal.decreases-put_digits
+decreases-put_digits l = l.most
