@@ -37,11 +37,12 @@ fn put_digits(buffer: &mut [u8], at: usize, n: u64, most: usize) -> usize
     if most == 0 {
         return at;
     }
-    let mut end = at;
-    if 10 <= n {
-        end = put_digits(buffer, at, n / 10, most - 1);
+    // kept: casts, as no From makes a u8 of a u64, and a TryFrom would ask what to do where there is none
+    if n < 10 {
+        buffer[at] = 48 + n as u8;
+        return at + 1;
     }
-    // kept: a cast, as no From makes a u8 of a u64, and a TryFrom would ask what to do where there is none
+    let end = put_digits(buffer, at, n / 10, most - 1);
     buffer[end] = 48 + (n % 10) as u8;
     end + 1
 }
