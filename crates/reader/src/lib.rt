@@ -1,7 +1,7 @@
 // Plan files, read into a plan held as values.
 #![tactic(auto)]
 
-ghost use Rattle.std.specs.Prelude.{◌≡◌, true, false, ◌+◌, ◌*◌, ◌-◌, ◌≤◌, length, IfOk, IfErr};
+ghost use Rattle.std.specs.Prelude.{◌≡◌, true, false, ◌+◌, ◌*◌, ◌-◌, ◌≤◌, leb, length, IfOk, IfErr};
 ghost use Rattle.std.specs.Iterator.{at_most};
 ghost use Rattle.refusal.specs.Number.{refusal_in};
 ghost use Rattle.whole.specs.Table.{table};
@@ -71,6 +71,17 @@ impl<'a> Iterator for Walk<'a> {
 }
 
 // ---- the checks on records
+
+// Check 1: a file is at most 16,384 bytes long.
+fn length_ok(file: &[u8]) -> Result<(), Refusal>
+    ensures { refusal_in result ≡ check (leb (length file.now) 16_384) 1 0 }
+{
+    if file.len() > 16_384 {
+        Err(Refusal::FileLength)
+    } else {
+        Ok(())
+    }
+}
 
 // Check 2: whole records end with the file.
 fn whole_file(file: &[u8]) -> Result<(), Refusal>
@@ -175,9 +186,7 @@ fn layout(file: &[u8]) -> Result<ShapedFile<'_>, Refusal>
     ensures file { IfOk result (λ shaped. shaped.file ≡ file.entry) }
     ensures shape { IfOk result (λ shaped. shaped.shaped.shape ≡ shape_in file.now) }
 {
-    if file.len() > 16_384 {
-        return Err(Refusal::FileLength);
-    }
+    length_ok(file)?;
     whole_file(file)?;
     let shaped = ShapedFile {
         file,
