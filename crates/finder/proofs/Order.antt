@@ -12,6 +12,7 @@ use Rattle.whole.specs.Entry.{cut}
 use Rattle.whole.proofs.Sum.{sum_ℕ_cong}
 use Rattle.whole.proofs.Table.{table_at, table_cong, table_whole}
 use Rattle.whole.proofs.Entry.{cut_in, cut_past, table_cut}
+use Rattle.patterns.proofs.Weighing.{parts_table}
 use Rattle.finder.specs.Grid.{down_from, splits, allocation_of, allocations}
 use Rattle.finder.specs.Lines.{wide_of}
 use Rattle.finder.specs.Placing.{placements}
@@ -80,7 +81,12 @@ pub wide_at : (shares : List ℕ) (j : ℕ) → j < 4 → get_or shares j 0 ≡ 
 unfolding wide_of
 wide_at shares j l = sym (table_at 16 4 (λ j. get_or shares j 0) 0 0 j l (omega arith))
 
--- which come to as much
+-- all sixteen come to at most 1,000,000 where the four do
+pub wide_few : (shares : List ℕ) {wide : List ℕ} → sum_ℕ 4 (λ j. get_or shares j 0) ≤ million → wide ≡ wide_of shares → sum_ℕ 16 (λ j. get_or wide j 0) ≤ million
+unfolding wide_of
+wide_few shares h e = rw e (parts_table 4 (λ j. get_or shares j 0) (omega arith) h)
+
+-- the first n come to as much as they did
 pub wide_whole : (n : ℕ) (shares : List ℕ) → n ≤ 4 → sum_ℕ n (λ j. get_or shares j 0) ≡ million → sum_ℕ n (λ j. get_or (wide_of shares) j 0) ≡ million
 wide_whole n shares few whole = sym (sum_ℕ_cong n _ _ (λ j l. wide_at shares j (omega arith))) ∙ whole
 

@@ -20,9 +20,9 @@ use Rattle.reckoning.proofs.Pattern.{amount_at}
 use Rattle.plan.specs.Refusal.{most}
 use Rattle.patterns.specs.Pattern.{Shared, flow_of}
 use Rattle.patterns.specs.Prepared.{Parts}
-use Rattle.patterns.specs.Arrays.{shared_in, flow_array, Weighable, Allocated}
+use Rattle.patterns.specs.Arrays.{shared_in, flow_array, Allocated}
 use Rattle.patterns.specs.declared.common.Common.{Common}
-use Rattle.patterns.proofs.Weighing.{weighed_by, column, column_at, part_at}
+use Rattle.patterns.proofs.Weighing.{weighed_by, part_at}
 
 -- ---- what is prepared of a plan: payments of which each is within the most that one may be, and a flow of Q within twice as much
 module _ (n : ℕ) (payments : List (List ℤ)) (constant : ℕ → ℤ) (shares : List ℕ) where
@@ -63,20 +63,19 @@ module _ (c : Common) (shares : List ℕ) where
   unfolding flow_of amounts_of nth flow_array
   flow_held_law past = fun_ext (table_held (pos 0) (flow_of S) c.rollover.horizon.held.few (flow_none c.instruments c.payments (amounts_of c.constant.amounts) shares 0 (λ j h. refl) refl) past)
 
-  module _ (a : Allocated c shares) where
-    pub flow_fit : Amounts (flow_array S)
-    unfolding flow_array
-    flow_fit = record {
-      amount = table_each (Within limit) 30 c.rollover.horizon.years (λ k. flow_of S (1 + k)) (pos 0) (pos 0) c.rollover.horizon.held.few (within_pos (omega arith)) (λ k h. a.flow (1 + k));
-    }
+  pub flow_fit : Allocated c shares → Amounts (flow_array S)
+  unfolding flow_array
+  flow_fit a = record {
+    amount = table_each (Within limit) 30 c.rollover.horizon.years (λ k. flow_of S (1 + k)) (pos 0) (pos 0) c.rollover.horizon.held.few (within_pos (omega arith)) (λ k h. a.flow (1 + k));
+  }
 
-    -- ---- the flow in year 1 + k: the weighted sum of a column of the payments, in whole amounts, and the flow of Q
-    module _ (k : ℕ) where
-      column_paid : weighed_by shares c.instruments (column c.payments k) ≡ paid c.instruments S.a S.p (1 + k)
-      unfolding paid
-      column_paid = sym (Σℤ_from 1 c.instruments c.instruments (λ j. S.a (1 + k) j *ℤ pos (S.p j)) _ (omega arith) (λ j h.
-          ap₂ (λ (x : ℤ) (p : ℕ). x *ℤ pos p) (row_flow j h (1 + k) ∙ amount_at (get_or c.payments j []) k ∙ sym (column_at c.payments k j)) (part_at c shares j h)))
+  -- ---- the flow in year 1 + k: the weighted sum of a column of the payments, in whole amounts, and the flow of Q
+  module _ (k : ℕ) (x : List ℤ) (is : (j : ℕ) → j < c.instruments → get_or x j (pos 0) ≡ get_or (get_or c.payments j []) k (pos 0)) where
+    column_paid : weighed_by shares c.instruments x ≡ paid c.instruments S.a S.p (1 + k)
+    unfolding paid
+    column_paid = sym (Σℤ_from 1 c.instruments c.instruments (λ j. S.a (1 + k) j *ℤ pos (S.p j)) _ (omega arith) (λ j h.
+        ap₂ (λ (x : ℤ) (p : ℕ). x *ℤ pos p) (row_flow j h (1 + k) ∙ amount_at (get_or c.payments j []) k ∙ sym (is j h)) (part_at c shares j h)))
 
-      pub flow_is : floor (weighed_by shares c.instruments (column c.payments k)) million +ℤ get_or c.constant.amounts k (pos 0) ≡ flow_of S (1 + k)
-      unfolding flow_of flow
-      flow_is = ap₂ (λ (s x : ℤ). floor s million +ℤ x) column_paid (sym (amount_at c.constant.amounts k))
+    pub flow_is : floor (weighed_by shares c.instruments x) million +ℤ get_or c.constant.amounts k (pos 0) ≡ flow_of S (1 + k)
+    unfolding flow_of flow
+    flow_is = ap₂ (λ (s x : ℤ). floor s million +ℤ x) column_paid (sym (amount_at c.constant.amounts k))

@@ -3,7 +3,7 @@ use mathlib.Core.Path.{◌≡◌, refl, sym, ap, ap₂, ◌∙◌}
 use mathlib.Core.List.{List}
 use Prim.Native.Nat.{ℕ, ◌+◌, ◌*◌, ◌<◌}
 use native.Mathlib.Omega.{arith}
-use lib.ListN.{get_or}
+use lib.ListN.{length, get_or}
 use lib.IntN.{ℤ, pos, ◌+ℤ◌, ◌*ℤ◌, +ℤ_idr}
 use mir.Syntax.{w64}
 use mir.Val.{SFits}
@@ -13,7 +13,7 @@ use Rattle.whole.proofs.Range.{within_add, within_fits}
 use Rattle.whole.proofs.Floor.{floor_within}
 use Rattle.whole.proofs.Sum.{Σℤ_from}
 use Rattle.whole.proofs.Test.{both_second, both_not, all_at, between_fact}
-use Rattle.whole.proofs.Table.{table_at}
+use Rattle.whole.proofs.Table.{table_at, length_table}
 use Rattle.reckoning.specs.Bound.{h, B, value}
 use Rattle.reckoning.specs.Arrays.{alphas_fit, fund_fits, fund_reckoned}
 use Rattle.reckoning.specs.Answers.{Reckoned}
@@ -70,6 +70,10 @@ module _ (common : Common) (shares : List ℕ) (i : ℕ → ℤ) {c : Coefficien
   coefficient_within : (j : ℕ) → j < common.instruments → Within limit (coefficient_at S i (1 + j))
   unfolding coefficient_at coefficients_fit fund_fits
   coefficient_within j l = between_fact _ _ _ (both_second (alphas_fit S.r i (λ k. S.a k (1 + j)) S.years) _ (all_at common.instruments _ j l (coefficients_fit_law S i e none)))
+
+  pub coefficients_long : length c.values ≡ 16
+  unfolding coefficients_at
+  coefficients_long = rw (coefficients_are S i e none) (length_table 16 common.instruments (λ j. coefficient_at S i (1 + j)) (pos 0) common.prepared.few)
 
   pub weighable : Parts common.instruments shares → Weighable common.instruments c.values shares
   weighable parts = record {

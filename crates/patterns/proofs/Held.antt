@@ -17,7 +17,7 @@ use Rattle.whole.proofs.Bridge.{whole}
 use Rattle.whole.proofs.Laws.{ℕ_cases}
 use Rattle.whole.proofs.Range.{within_more, within_sub, within_pos, within_fits}
 use Rattle.whole.proofs.Sum.{Σℕ_from, sum_ℕ_one}
-use Rattle.whole.proofs.Table.{table_at, table_each, table_cong}
+use Rattle.whole.proofs.Table.{table_at, table_past, table_each, table_cong}
 use Rattle.whole.proofs.Entry.{entry_in, entry_past, entry_zero, entry_beyond, entry_cong, table_held}
 use Rattle.reckoning.specs.Arrays.{shares_of, rates_of, amounts_of, Terms, Rates, Amounts}
 use Rattle.plan.specs.Held.{HeldInstrument, unheld_instrument, instrument_held, instrument_at, pattern_held, pattern_at, amounts_in, allocation_held, cost_held, held}
@@ -108,6 +108,10 @@ module _ (plan : Plan) (ok : Accepted (numbers plan)) where
   pub row_is : (j : ℕ) → j < plan.instruments → get_or (payments_rows P) j [] ≡ payments_row P j
   unfolding payments_rows
   row_is j h = table_at 16 plan.instruments (payments_row P) _ [] j h ok.head.instruments_few
+
+  pub row_past : (j : ℕ) → plan.instruments ≤ j → j < 16 → get_or (payments_rows P) j [] ≡ replicate 30 (pos 0)
+  unfolding payments_rows
+  row_past = table_past 16 plan.instruments (payments_row P) _ []
 
   row_held : (j : ℕ) → j < plan.instruments → amounts_of (get_or (payments_rows P) j []) ≡ (λ k. P.a k (1 + j))
   unfolding amounts_of payments_row

@@ -24,9 +24,9 @@ use Rattle.whole.proofs.Sum.{Σℤ_from, sum_none, sum_zeros, sum_more, sum_spli
 use Rattle.reckoning.specs.Reckoning.{left}
 use Rattle.plan.specs.Held.{amounts_in}
 use Rattle.plan.proofs.Held.{held_at}
-use Rattle.patterns.specs.Pattern.{Shared}
+use Rattle.patterns.specs.Pattern.{Shared, exact_left_of, left_of}
 use Rattle.patterns.specs.Prepared.{Parts}
-use Rattle.patterns.specs.Arrays.{shared_in, left_with, Weighable}
+use Rattle.patterns.specs.Arrays.{shared_in, left_with, left_in, Weighable}
 use Rattle.patterns.specs.declared.common.Common.{Common}
 
 -- what is left of costs that are 0, of any allocation
@@ -121,9 +121,9 @@ parts_table n f few parts =
     rw (ap (λ (m : ℕ). sum_ℕ m part) all ∙ sum_ℕ_past n (16 - n) part past ∙ sum_ℕ_cong n part f (λ j h. table_at 16 n f 0 0 j h few)) parts
 
 -- ---- what is left of costs: their weighted sum, in whole amounts
-pub left_is : (costs : List ℤ) (n : ℕ) (shares : List ℕ) → floor (weighed_by shares n costs) million ≡ left_with (Some costs) n shares
+pub left_some : (costs : List ℤ) (n : ℕ) (shares : List ℕ) → floor (weighed_by shares n costs) million ≡ left_with (Some costs) n shares
 unfolding left
-left_is costs n shares = sym (ap (λ (z : ℤ). floor z million) (Σℤ_from 1 n n (λ j. entry (pos 0) n (λ j. get_or costs j (pos 0)) j *ℤ pos (entry 0 n (λ j. get_or shares j 0) j)) _ (omega arith)
+left_some costs n shares = sym (ap (λ (z : ℤ). floor z million) (Σℤ_from 1 n n (λ j. entry (pos 0) n (λ j. get_or costs j (pos 0)) j *ℤ pos (entry 0 n (λ j. get_or shares j 0) j)) _ (omega arith)
     (λ j h. ap₂ (λ (x : ℤ) (p : ℕ). x *ℤ pos p) (entry_at (pos 0) n (λ j. get_or costs j (pos 0)) j h) (entry_at 0 n (λ j. get_or shares j 0) j h))))
 
 -- nothing where no cost is held
@@ -142,13 +142,17 @@ module _ (c : Common) (shares : List ℕ) where
   pub cost_at : (j : ℕ) → j < c.instruments → S.cost (1 + j) ≡ get_or (amounts_in c.cost) j (pos 0)
   cost_at = held_at c.cost c.instruments
 
-  pub cost_weighable : Parts c.instruments shares → Weighable c.instruments (amounts_in c.cost) shares
-  cost_weighable parts = record { few = c.prepared.few; amount = c.prepared.costs; parts = parts }
+  -- any amounts that are the instruments' costs
+  module _ (costs : List ℤ) (same : (j : ℕ) → j < c.instruments → get_or costs j (pos 0) ≡ get_or (amounts_in c.cost) j (pos 0)) where
+    pub cost_weighable : Parts c.instruments shares → Weighable c.instruments costs shares
+    cost_weighable parts = record { few = c.prepared.few; amount = λ j h. rw (same j h) (c.prepared.costs j h); parts = parts }
 
-  -- the payments of year 1 + k
-  pub column_weighable : Parts c.instruments shares → (k : ℕ) → k < 30 → Weighable c.instruments (column c.payments k) shares
-  column_weighable parts k few = record {
-    few = c.prepared.few;
-    amount = λ j h. rw (column_at c.payments k j) ((c.prepared.payments j h).amount k few);
-    parts = parts;
-  }
+    pub left_is : floor (weighed_by shares c.instruments costs) million ≡ left_in c shares
+    unfolding left_of exact_left_of left
+    left_is = sym (ap (λ (z : ℤ). floor z million) (Σℤ_from 1 c.instruments c.instruments (λ j. S.cost j *ℤ pos (S.p j)) _ (omega arith)
+        (λ j h. ap₂ (λ (x : ℤ) (p : ℕ). x *ℤ pos p) (cost_at j h ∙ sym (same j h)) (part_at j h))))
+
+  -- any that are their payments in year 1 + k
+  pub column_weighable : Parts c.instruments shares → (k : ℕ) → k < 30 → (x : List ℤ)
+      → ((j : ℕ) → j < c.instruments → get_or x j (pos 0) ≡ get_or (get_or c.payments j []) k (pos 0)) → Weighable c.instruments x shares
+  column_weighable parts k few x is = record { few = c.prepared.few; amount = λ j h. rw (is j h) ((c.prepared.payments j h).amount k few); parts = parts }

@@ -1,7 +1,7 @@
 -- What the refusal of a call says, the ways out of a call, and that what a plan does not hold plays no part.
 use mathlib.Core.Path.{◌≡◌, sym, ap, ◌∙◌}
 use mathlib.Core.Bool.{Bool, true, false}
-use mathlib.Core.List.{List}
+use mathlib.Core.List.{List, []}
 use lib.IntN.{ℤ}
 use Prim.Native.Nat.{ℕ, ◌+◌, ◌≤◌}
 use native.Mathlib.Omega.{arith}
@@ -19,7 +19,7 @@ use Rattle.plan.specs.declared.Plan.{Plan}
 use Rattle.plan.proofs.Checks.{check_true, first_some, first_none, first_next, answer_refused, answer_accepted, accepted}
 use Rattle.patterns.specs.Prepared.{Parts}
 use Rattle.patterns.specs.Arrays.{parts_of, shared_in, shared_with, Allocated}
-use Rattle.patterns.specs.Pattern.{shared_of, bound_at}
+use Rattle.patterns.specs.Pattern.{Shared, shared_of, bound_at}
 use Rattle.patterns.specs.declared.common.Common.{Common}
 use Rattle.patterns.proofs.Weighing.{parts_first}
 use Rattle.plan.proofs.Number.{number_some}
@@ -71,21 +71,26 @@ module _ {A : Type 0} (refused : ℕ → A) {number : ℕ} where
   pub out_accepted : {s x : A} → 0 ≡ number → x ≡ s → x ≡ answer refused number s
   out_accepted {s} e f = f ∙ sym (answer_accepted refused number s (sym e))
 
+-- B looks at the rates, the years and whether the cost is held
+pub bound_made : {plan taken : Plan} → taken ≡ plan → (t : ℕ) {i : ℕ → ℤ} {N : ℕ} {costed : Bool} → i ≡ (numbers plan).i t → N ≡ taken.years → costed ≡ is_some taken.cost
+    → B (h i N) N + flag costed ≡ bound_of (numbers plan) t
+unfolding bound_of bound_at
+bound_made same t e f g = rw (e, f ∙ ap (λ (x : Plan). x.years) same, g ∙ ap (λ (x : Plan). is_some x.cost) same)
+
 -- ---- what all patterns share, of the code's record that is made of a plan; the plan is known by an equal one
 module _ {plan taken : Plan} (same : taken ≡ plan) (c : Common) (shared : (shares : List ℕ) → shared_in c shares ≡ shared_with (numbers taken) (parts_of taken.instruments shares)) where
   -- with the parts of its allocation
   pub shared_is : (shares : List ℕ) → parts_of taken.instruments shares ≡ (numbers taken).p → shared_in c shares ≡ shared_of (numbers plan)
   shared_is shares h = shared shares ∙ ap (shared_with (numbers taken)) h ∙ ap (λ (x : Plan). shared_of (numbers x)) same
 
+  -- B looks at none
+  pub bound_law : (t : ℕ) {i : ℕ → ℤ} → i ≡ (numbers plan).i t → bound_at (shared_in c []) i ≡ bound_of (numbers plan) t
+  unfolding bound_of bound_at
+  bound_law t e = bound_made same t e (ap (λ (S : Shared). S.years) (shared [])) (ap (λ (S : Shared). S.costed) (shared []))
+
 -- an allocation of sixteen parts, of what takes each of n
 pub allocation_taken : (c : Common) → ((shares : List ℕ) → Parts c.instruments shares → Allocated c shares) → {shares : List ℕ} → Parts 16 shares → Allocated c shares
 allocation_taken c all {shares} parts = all shares (parts_first shares c.instruments c.prepared.few parts)
-
--- B looks at the rates, the years and whether the cost is held
-pub bound_law : {plan taken : Plan} → taken ≡ plan → (t : ℕ) {i : ℕ → ℤ} {N : ℕ} {costed : Bool} → i ≡ (numbers plan).i t → N ≡ taken.years → costed ≡ is_some taken.cost
-    → B (h i N) N + flag costed ≡ bound_of (numbers plan) t
-unfolding bound_of bound_at
-bound_law same t e f g = rw (e, f ∙ ap (λ (x : Plan). x.years) same, g ∙ ap (λ (x : Plan). is_some x.cost) same)
 
 -- ---- plans that hold the same are answered alike: no answer sees more of a plan than its numbers
 pub answered_alike : {A : Type 0} (answered : Numbers → A) (x y : Plan) → held x ≡ held y → answered (numbers x) ≡ answered (numbers y)

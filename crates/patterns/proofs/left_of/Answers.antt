@@ -11,7 +11,7 @@ use Rattle.whole.specs.Floor.{floor}
 use Rattle.whole.proofs.Floor.{floor_within}
 use Rattle.whole.proofs.Range.{back, ok64}
 use Rattle.patterns.specs.Arrays.{left_with, Weighable}
-use Rattle.patterns.proofs.Weighing.{weighted_within, taken, weighed_taken, left_is, left_none}
+use Rattle.patterns.proofs.Weighing.{weighted_within, taken, weighed_taken, left_some, left_none}
 use Rattle.patterns.proofs.left_of.Goals as goal
 use Rattle.patterns.proofs.left_of.Goals.{In-Some, After-down}
 
@@ -41,7 +41,7 @@ module _ (c : After-down) where
 pub returns-in-Some-clause-value : goal.returns-in-Some-clause-value
 returns-in-Some-clause-value c =
     simp (back, down_fits c) (down_is c ∙ ap (λ (z : ℤ). floor z million) (c.weighed.ensures ∙ weighed_taken (weighable (held c)))
-    ∙ left_is c.in-Some.costs c.args.n c.args.p.now.shares ∙ ap (λ (cost : Option (List ℤ)). left_with cost c.args.n c.args.p.now.shares) (sym c.in-Some.is))
+    ∙ left_some c.in-Some.costs c.args.n c.args.p.now.shares ∙ ap (λ (cost : Option (List ℤ)). left_with cost c.args.n c.args.p.now.shares) (sym c.in-Some.is))
 
 pub returns-in-Some-clause-within : goal.returns-in-Some-clause-within
 returns-in-Some-clause-within c =

@@ -45,7 +45,7 @@ module _ (c : After-from) where
   part = c.from.ensures ∙ ap pos (turn.3 0)
 
   weighable : Weighable c.args.self.now.instruments (column c.args.self.now.payments c.args.k) c.args.p.now.shares
-  weighable = column_weighable c.args.self.now c.args.p.now.shares c.requires.parts c.args.k c.requires.k_few
+  weighable = column_weighable c.args.self.now c.args.p.now.shares c.requires.parts c.args.k c.requires.k_few _ (λ j h. column_at c.args.self.now.payments c.args.k j)
 
   z_is : SFits w64 z
   z_is = rw amount (within_fits (omega arith) (weighable.amount j few))
