@@ -6,7 +6,7 @@ use Prim.Native.Nat.{ℕ, zero, suc, ◌+◌, ◌-◌, ◌*◌, ◌≤◌, ◌<�
 use native.Mathlib.Nat.{le_trans}
 use native.Mathlib.Omega.{arith}
 use lib.ListN.{length, get_or, get_or-eq_default, take}
-use Rattle.std.specs.Prelude.{Some, None, map}
+use Rattle.std.specs.Prelude.{Option, Some, None, is_some, map}
 use Rattle.std.proofs.lemmas.List.{length-take, get_or-take}
 use lib.IntN.{ℤ, pos, ◌+ℤ◌, ◌*ℤ◌, zero-*ℤ}
 use mir.Syntax.{w64}
@@ -15,6 +15,7 @@ use Rattle.whole.specs.Range.{million, limit, Within}
 use Rattle.whole.specs.Floor.{floor}
 use Rattle.whole.specs.Sum.{sum, sum_ℕ}
 use Rattle.whole.specs.Table.{table}
+use Rattle.whole.specs.Test.{pick}
 use Rattle.whole.proofs.Bridge.{same, #, ◌⊕◌}
 use Rattle.whole.proofs.Range.{within_pos, within_mul, within_fits}
 use Rattle.whole.specs.Entry.{entry}
@@ -120,11 +121,17 @@ parts_table n f few parts =
     let past : (j : ℕ) → n ≤ j → part j ≡ 0 = λ j h. table_cut 0 n f 16 few j ∙ cut_past 0 n f j h in
     rw (ap (λ (m : ℕ). sum_ℕ m part) all ∙ sum_ℕ_past n (16 - n) part past ∙ sum_ℕ_cong n part f (λ j h. table_at 16 n f 0 0 j h few)) parts
 
--- ---- what is left of costs: their weighted sum, in whole amounts
-pub left_some : (costs : List ℤ) (n : ℕ) (shares : List ℕ) → floor (weighed_by shares n costs) million ≡ left_with (Some costs) n shares
+-- ---- what is left of costs, held or not: the weighted sum, in whole amounts, of any amounts that are these, 0 where none is held
+left_by : (cost : Option (List ℤ)) (n : ℕ) (shares : List ℕ) (costs : List ℤ) → ((j : ℕ) → j < n → get_or costs j (pos 0) ≡ get_or (amounts_in cost) j (pos 0))
+    → floor (weighed_by shares n costs) million ≡ left_with cost n shares
 unfolding left
-left_some costs n shares = sym (ap (λ (z : ℤ). floor z million) (Σℤ_from 1 n n (λ j. entry (pos 0) n (λ j. get_or costs j (pos 0)) j *ℤ pos (entry 0 n (λ j. get_or shares j 0) j)) _ (omega arith)
-    (λ j h. ap₂ (λ (x : ℤ) (p : ℕ). x *ℤ pos p) (entry_at (pos 0) n (λ j. get_or costs j (pos 0)) j h) (entry_at 0 n (λ j. get_or shares j 0) j h))))
+left_by cost n shares costs same = sym (ap (λ (z : ℤ). floor z million)
+    (Σℤ_from 1 n n (λ j. entry (pos 0) (pick (is_some cost) n 0) (λ j. get_or (amounts_in cost) j (pos 0)) j *ℤ pos (entry 0 n (λ j. get_or shares j 0) j)) _ (omega arith)
+    (λ j h. ap₂ (λ (x : ℤ) (p : ℕ). x *ℤ pos p) (held_at cost n j h ∙ sym (same j h)) (entry_at 0 n (λ j. get_or shares j 0) j h))))
+
+-- of costs that are held
+pub left_some : (costs : List ℤ) (n : ℕ) (shares : List ℕ) → floor (weighed_by shares n costs) million ≡ left_with (Some costs) n shares
+left_some costs n shares = left_by (Some costs) n shares costs (λ j h. refl)
 
 -- nothing where no cost is held
 pub left_none : (n : ℕ) (shares : List ℕ) → pos 0 ≡ left_with None n shares
@@ -148,9 +155,8 @@ module _ (c : Common) (shares : List ℕ) where
     cost_weighable parts = record { few = c.prepared.few; amount = λ j h. rw (same j h) (c.prepared.costs j h); parts = parts }
 
     pub left_is : floor (weighed_by shares c.instruments costs) million ≡ left_in c shares
-    unfolding left_of exact_left_of left
-    left_is = sym (ap (λ (z : ℤ). floor z million) (Σℤ_from 1 c.instruments c.instruments (λ j. S.cost j *ℤ pos (S.p j)) _ (omega arith)
-        (λ j h. ap₂ (λ (x : ℤ) (p : ℕ). x *ℤ pos p) (cost_at j h ∙ sym (same j h)) (part_at j h))))
+    unfolding left_of exact_left_of
+    left_is = left_by c.cost c.instruments shares costs same
 
   -- any that are their payments in year 1 + k
   pub column_weighable : Parts c.instruments shares → (k : ℕ) → k < 30 → (x : List ℤ)
